@@ -1,0 +1,241 @@
+-- THE EXAMPLES P1 TO P12, and some questions and writings, as one table under one claim. Assumes nothing.
+use Prim.Native.Nat.{ℕ}
+use mathlib.Core.Path.{_≡_, refl}
+use mathlib.Core.Bool.{Bool, true, false, cond, _&&_}
+use mathlib.Core.List.{List, [], _∷_, _++_}
+use lib.Dec.{eqb}
+use lib.ListN.{replicate}
+use Rattle.floor.specs.Lists.{all, any, keep, pairwise, chained, sum, upFrom, isFirst, isLast}
+use Rattle.floor.specs.Fields.{readField, restOf, writeField}
+use Rattle.floor.specs.Jobs.{opposite, frameKind, rooms, isVertex, isRoom, starOf, names, lists, kindOf, listOf, pairsIn, test2, test3, entryOk}
+use Rattle.floor.specs.Jobs.{test4, starOk, test5, test6, entries, starThen, readStars, readRest, readRooms, readFirst, readJob, starBytes}
+use Rattle.floor.specs.Jobs.{writeStars, writeJob}
+use Rattle.floor.specs.Walls.{entryRules, starRules, rulesFrom, raise, relax1, relax, meets, over, passes, numbersOf, jobNumbers}
+use Rattle.floor.specs.Plans.{Rect, rectOf, roomRect, planOf, inside, overlap, abut, apart, area, share, corner, nextSide, joined, sharesJoined}
+use Rattle.floor.specs.Plans.{follows, inOrder, drawable, past, test8, tested, planned, drawn, rectBytes, writeRects, writePlan}
+use Rattle.floor.specs.Turns.{turnedKind, withKind, rekinded, turned, turnAt, turnFrom, inContact, turn}
+use Rattle.floor.specs.Calls.{Board, empty, holding, Call, loads, turns, rectangle, shares, writesJob, writesPlan, Reply, refusal, done, spans, says}
+use Rattle.floor.specs.Calls.{wrote, Step, loadRead, load, refuse, after, asks, writes, sharing, step, run}
+
+-- P1: one room
+p1 : List ℕ
+p1 =
+    1 ∷ 0 ∷ 1 ∷ 1
+    ∷ 2 ∷ 0 ∷ 8 ∷ 0 ∷ 0 ∷ 1 ∷ 1 ∷ 2 ∷ 2 ∷ 3 ∷ 3 ∷ []
+
+-- P5: rooms 4 and 5 side by side
+p5 : List ℕ
+p5 =
+    1 ∷ 0 ∷ 1 ∷ 2
+    ∷ 2 ∷ 0 ∷ 8 ∷ 0 ∷ 0 ∷ 1 ∷ 1 ∷ 2 ∷ 2 ∷ 5 ∷ 3
+    ∷ 2 ∷ 0 ∷ 8 ∷ 0 ∷ 0 ∷ 4 ∷ 1 ∷ 2 ∷ 2 ∷ 3 ∷ 3 ∷ []
+
+-- P6: both rooms list N, W, S, E only
+p6 : List ℕ
+p6 =
+    1 ∷ 0 ∷ 1 ∷ 2
+    ∷ 2 ∷ 0 ∷ 8 ∷ 0 ∷ 0 ∷ 1 ∷ 1 ∷ 2 ∷ 2 ∷ 3 ∷ 3
+    ∷ 2 ∷ 0 ∷ 8 ∷ 0 ∷ 0 ∷ 1 ∷ 1 ∷ 2 ∷ 2 ∷ 3 ∷ 3 ∷ []
+
+-- P7: rooms 4, 5, 6, each right of the one before, 4 right of 6
+p7 : List ℕ
+p7 =
+    1 ∷ 0 ∷ 1 ∷ 3
+    ∷ 2 ∷ 0 ∷ 8 ∷ 0 ∷ 0 ∷ 6 ∷ 1 ∷ 2 ∷ 2 ∷ 5 ∷ 3
+    ∷ 2 ∷ 0 ∷ 8 ∷ 0 ∷ 0 ∷ 4 ∷ 1 ∷ 2 ∷ 2 ∷ 6 ∷ 3
+    ∷ 2 ∷ 0 ∷ 8 ∷ 0 ∷ 0 ∷ 5 ∷ 1 ∷ 2 ∷ 2 ∷ 4 ∷ 3 ∷ []
+
+-- the job F
+jobF : List ℕ
+jobF =
+    1 ∷ 0 ∷ 1 ∷ 4
+    ∷ 2 ∷ 0 ∷ 8 ∷ 0 ∷ 0 ∷ 1 ∷ 1 ∷ 6 ∷ 2 ∷ 5 ∷ 3
+    ∷ 2 ∷ 0 ∷ 10 ∷ 0 ∷ 0 ∷ 4 ∷ 1 ∷ 6 ∷ 1 ∷ 7 ∷ 2 ∷ 3 ∷ 3
+    ∷ 2 ∷ 0 ∷ 10 ∷ 4 ∷ 0 ∷ 1 ∷ 1 ∷ 2 ∷ 2 ∷ 7 ∷ 3 ∷ 5 ∷ 3
+    ∷ 2 ∷ 0 ∷ 8 ∷ 5 ∷ 0 ∷ 6 ∷ 1 ∷ 2 ∷ 2 ∷ 3 ∷ 3 ∷ []
+
+-- P10: F without the contact of 5 and 6
+p10 : List ℕ
+p10 =
+    1 ∷ 0 ∷ 1 ∷ 4
+    ∷ 2 ∷ 0 ∷ 8 ∷ 0 ∷ 0 ∷ 1 ∷ 1 ∷ 6 ∷ 2 ∷ 5 ∷ 3
+    ∷ 2 ∷ 0 ∷ 8 ∷ 0 ∷ 0 ∷ 4 ∷ 1 ∷ 7 ∷ 2 ∷ 3 ∷ 3
+    ∷ 2 ∷ 0 ∷ 8 ∷ 4 ∷ 0 ∷ 1 ∷ 1 ∷ 2 ∷ 2 ∷ 7 ∷ 3
+    ∷ 2 ∷ 0 ∷ 8 ∷ 5 ∷ 0 ∷ 6 ∷ 1 ∷ 2 ∷ 2 ∷ 3 ∷ 3 ∷ []
+
+-- 1 room at x 1..2, y 1..2, sheet 3 by 3
+floorP1 : List ℕ
+floorP1 =
+    3 ∷ 3
+    ∷ 0 ∷ 1 ∷ 2 ∷ 2 ∷ 3
+    ∷ 1 ∷ 0 ∷ 0 ∷ 1 ∷ 3
+    ∷ 2 ∷ 1 ∷ 0 ∷ 2 ∷ 1
+    ∷ 3 ∷ 2 ∷ 0 ∷ 3 ∷ 3
+    ∷ 4 ∷ 1 ∷ 1 ∷ 2 ∷ 2 ∷ []
+
+-- sheet 4 by 3; 5 is x 2..3
+floorP5 : List ℕ
+floorP5 =
+    4 ∷ 3
+    ∷ 0 ∷ 1 ∷ 2 ∷ 3 ∷ 3
+    ∷ 1 ∷ 0 ∷ 0 ∷ 1 ∷ 3
+    ∷ 2 ∷ 1 ∷ 0 ∷ 3 ∷ 1
+    ∷ 3 ∷ 3 ∷ 0 ∷ 4 ∷ 3
+    ∷ 4 ∷ 1 ∷ 1 ∷ 2 ∷ 2
+    ∷ 5 ∷ 2 ∷ 1 ∷ 3 ∷ 2 ∷ []
+
+-- the plan of F
+floorF : List ℕ
+floorF =
+    4 ∷ 5
+    ∷ 0 ∷ 1 ∷ 4 ∷ 3 ∷ 5
+    ∷ 1 ∷ 0 ∷ 0 ∷ 1 ∷ 5
+    ∷ 2 ∷ 1 ∷ 0 ∷ 3 ∷ 1
+    ∷ 3 ∷ 3 ∷ 0 ∷ 4 ∷ 5
+    ∷ 4 ∷ 1 ∷ 3 ∷ 2 ∷ 4
+    ∷ 5 ∷ 2 ∷ 2 ∷ 3 ∷ 4
+    ∷ 6 ∷ 1 ∷ 1 ∷ 2 ∷ 3
+    ∷ 7 ∷ 2 ∷ 1 ∷ 3 ∷ 2 ∷ []
+
+-- F, then turn 5 and 6
+turnedF : List ℕ
+turnedF =
+    5 ∷ 4
+    ∷ 0 ∷ 1 ∷ 3 ∷ 4 ∷ 4
+    ∷ 1 ∷ 0 ∷ 0 ∷ 1 ∷ 4
+    ∷ 2 ∷ 1 ∷ 0 ∷ 4 ∷ 1
+    ∷ 3 ∷ 4 ∷ 0 ∷ 5 ∷ 4
+    ∷ 4 ∷ 1 ∷ 2 ∷ 2 ∷ 3
+    ∷ 5 ∷ 2 ∷ 2 ∷ 4 ∷ 3
+    ∷ 6 ∷ 1 ∷ 1 ∷ 3 ∷ 2
+    ∷ 7 ∷ 3 ∷ 1 ∷ 4 ∷ 2 ∷ []
+
+-- the plan of P1 as bytes
+planP1 : List ℕ
+planP1 =
+    3 ∷ 0 ∷ 2 ∷ 3 ∷ 3
+    ∷ 4 ∷ 0 ∷ 5 ∷ 0 ∷ 1 ∷ 2 ∷ 2 ∷ 3
+    ∷ 4 ∷ 0 ∷ 5 ∷ 1 ∷ 0 ∷ 0 ∷ 1 ∷ 3
+    ∷ 4 ∷ 0 ∷ 5 ∷ 2 ∷ 1 ∷ 0 ∷ 2 ∷ 1
+    ∷ 4 ∷ 0 ∷ 5 ∷ 3 ∷ 2 ∷ 0 ∷ 3 ∷ 3
+    ∷ 4 ∷ 0 ∷ 5 ∷ 4 ∷ 1 ∷ 1 ∷ 2 ∷ 2 ∷ []
+
+-- the two lists are one
+unfoldable pub same : List ℕ → List ℕ → Bool
+same [] [] = true
+same [] (y ∷ ys) = false
+same (x ∷ xs) [] = false
+same (x ∷ xs) (y ∷ ys) = eqb x y && same xs ys
+
+-- the numbers of some rectangles
+unfoldable pub numbers : List Rect → List ℕ
+numbers [] = []
+numbers (r ∷ rs) = rectBytes r ++ numbers rs
+
+-- the sheet and the rectangles that a board holds
+unfoldable pub plan : Board → List ℕ
+plan empty = []
+plan (holding j p) = p .width ∷ p .height ∷ numbers (p .rects)
+
+-- a refusal's number; the plan now held; a rectangle; 1 for yes and 0 for no; the length written and the whole buffer
+unfoldable pub told : Reply → Board → List ℕ → List ℕ
+told (refusal k) b buf = k ∷ []
+told done b buf = plan b
+told (spans r) b buf = numbers (r ∷ [])
+told (says t) b buf = cond t 1 0 ∷ []
+told (wrote n) b buf = n ∷ buf
+
+-- some calls on an empty board, then one more, and what it shows
+pub record Row : Type 0 where
+  pub before : List Call
+  pub last : Call
+  pub shows : List ℕ
+
+-- the last call shows what the row says
+unfoldable pub right : Row → Bool
+right r =
+    let s : Step = step (run empty (r .before)) (r .last) in
+    same (told (s .reply) (s .board) (s .buffer)) (r .shows)
+
+pub table : List Row
+table =
+    -- P1
+    record { before = []; last = loads p1; shows = floorP1 }
+    ∷
+    -- P2
+    record { before = []; last = loads (1 ∷ 0 ∷ 1 ∷ 0 ∷ []); shows = 2 ∷ [] }
+    ∷
+    -- P3
+    record { before = []; last = loads []; shows = 1 ∷ [] }
+    ∷
+    -- P4
+    record { before = []; last = loads (p1 ++ 7 ∷ []); shows = 1 ∷ [] }
+    ∷
+    -- P5
+    record { before = []; last = loads p5; shows = floorP5 }
+    ∷
+    -- P6
+    record { before = []; last = loads p6; shows = 9 ∷ [] }
+    ∷
+    -- P7
+    record { before = []; last = loads p7; shows = 7 ∷ [] }
+    ∷
+    -- P8
+    record { before = []; last = loads jobF; shows = floorF }
+    ∷
+    -- P9
+    record { before = loads jobF ∷ []; last = turns 5 6; shows = turnedF }
+    ∷
+    -- P9, turned again
+    record { before = loads jobF ∷ turns 5 6 ∷ []; last = turns 6 5; shows = floorF }
+    ∷
+    -- P10
+    record { before = []; last = loads p10; shows = 9 ∷ [] }
+    ∷
+    -- P11
+    record { before = loads jobF ∷ []; last = turns 4 5; shows = 12 ∷ [] }
+    ∷
+    -- P12
+    record { before = loads jobF ∷ []; last = turns 4 0; shows = 11 ∷ [] }
+    ∷
+    -- no plan is held
+    record { before = []; last = turns 4 5; shows = 10 ∷ [] }
+    ∷
+    -- nor to be asked about
+    record { before = []; last = rectangle 0; shows = 10 ∷ [] }
+    ∷
+    -- nor to be written: every byte of the buffer stays
+    record { before = []; last = writesJob (9 ∷ []); shows = 10 ∷ [] }
+    ∷
+    -- the rectangle of room 4
+    record { before = loads p1 ∷ []; last = rectangle 4; shows = 4 ∷ 1 ∷ 1 ∷ 2 ∷ 2 ∷ [] }
+    ∷
+    -- no vertex 5
+    record { before = loads p1 ∷ []; last = rectangle 5; shows = 13 ∷ [] }
+    ∷
+    -- N and room 4 share
+    record { before = loads p1 ∷ []; last = shares 0 4; shows = 1 ∷ [] }
+    ∷
+    -- N and S do not
+    record { before = loads p1 ∷ []; last = shares 0 2; shows = 0 ∷ [] }
+    ∷
+    -- one vertex asked twice
+    record { before = loads p1 ∷ []; last = shares 4 4; shows = 0 ∷ [] }
+    ∷
+    -- one of two too large
+    record { before = loads p1 ∷ []; last = shares 4 5; shows = 13 ∷ [] }
+    ∷
+    -- a buffer one byte too short
+    record { before = loads p1 ∷ []; last = writesJob (replicate 14 9); shows = 14 ∷ [] }
+    ∷
+    -- the job of P1 written: 15 bytes, and the two behind untouched
+    record { before = loads p1 ∷ []; last = writesJob (replicate 17 9); shows = 15 ∷ (p1 ++ 9 ∷ 9 ∷ []) }
+    ∷
+    -- its plan written: 45 bytes, and the one behind untouched
+    record { before = loads p1 ∷ []; last = writesPlan (replicate 46 7); shows = 45 ∷ (planP1 ++ 7 ∷ []) }
+    ∷ []
+
+-- EVERY ROW HOLDS
+pub examples : all right table ≡ true
+unfolding p1 p5 p6 p7 jobF p10 floorP1 floorP5 floorF turnedF planP1 same numbers plan told right table all any keep pairwise chained sum upFrom isFirst isLast readField restOf writeField opposite frameKind rooms isVertex isRoom starOf names lists kindOf listOf pairsIn test2 test3 entryOk test4 starOk test5 test6 entries starThen readStars readRest readRooms readFirst readJob starBytes writeStars writeJob entryRules starRules rulesFrom raise relax1 relax meets over passes numbersOf jobNumbers rectOf roomRect planOf inside overlap abut apart area share corner nextSide joined sharesJoined follows inOrder drawable past test8 tested planned drawn rectBytes writeRects writePlan turnedKind withKind rekinded turned turnAt turnFrom inContact turn loadRead load refuse after asks writes sharing step run
+examples = refl
