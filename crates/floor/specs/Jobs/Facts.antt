@@ -13,7 +13,7 @@ use Rattle.floor.specs.Lists.{all, any}
 use Rattle.floor.specs.Lists.Laws.{and-left, and-right, and-parts, and-both, or-cases, or-left, or-right, any-mem, mem-any, all-mem, mem-all, mem-getD, getD-mem}
 use Rattle.floor.specs.Lists.Laws.{upFrom-mem, mem-upFrom, implies, implied}
 use Rattle.floor.specs.Jobs.{Entry, Star, Job, Room, Vertex, opposite, frameKind, rooms, isVertex, isRoom, starOf, lists, entryOk, test4, starOk, test5, test6}
-use Rattle.floor.specs.Jobs.Stars.{entry, AtMost, Good, good-of, of-good, mem-most}
+use Rattle.floor.specs.Jobs.Stars.{entry, AtMost, GoodStar, good-of, of-good, mem-most}
 
 -- rooms and vertices
 pub is-room : (j : Job) (v : ℕ) → isRoom j v ≡ true → Room j v
@@ -77,7 +77,7 @@ pub record EntryOk (n u : ℕ) (e : Entry) : Type 0 where
 -- TESTS 4 TO 6: entries that may stand there, stars in order, each contact told by both rooms
 pub record Passes (j : Job) : Type 0 where
   pub entries : (u : ℕ) → Room j u → (e : Entry) → List·Memᴰ e (starOf j u) → EntryOk (length j) u e
-  pub good : (u : ℕ) → Room j u → Good (starOf j u)
+  pub good : (u : ℕ) → Room j u → GoodStar (starOf j u)
   pub opposed : (u : ℕ) → Room j u → (e : Entry) → List·Memᴰ e (starOf j u) → 4 ≤ e .to → List·Memᴰ (entry u (opposite (e .kind))) (starOf j (e .to))
 
 -- a frame side's kind is its number

@@ -36,7 +36,7 @@ Sorted [] = Unit {0}
 Sorted (e ∷ s) = AtLeast (e .kind) s × Sorted s
 
 -- TEST 5, and that no kind is over 3
-pub record Good (s : Star) : Type 0 where
+pub record GoodStar (s : Star) : Type 0 where
   pub sorted : Sorted s
   pub small : AtMost 3 s
   pub has : (k : ℕ) → k ≤ 3 → 1 ≤ ofKind k s
@@ -58,7 +58,7 @@ pub mem-most : (k : ℕ) (s : Star) → ((e : Entry) → List·Memᴰ e s → e 
 mem-most k [] h = tt
 mem-most k (d ∷ s) h = (h d (List·Memᴰ·head refl), mem-most k s (λ e m. h e (List·Memᴰ·tail m)))
 
-pub small-mem : (s : Star) → Good s → (e : Entry) → List·Memᴰ e s → e .kind ≤ 3
+pub small-mem : (s : Star) → GoodStar s → (e : Entry) → List·Memᴰ e s → e .kind ≤ 3
 small-mem s g = most-mem 3 s (g .small)
 
 sorted-of : (s : Star) → chained (λ a b. leb (a .kind) (b .kind)) s ≡ true → Sorted s
@@ -128,14 +128,14 @@ of-once (d ∷ s) h = and-both _ _ (mem-all (different d) s apart) (of-once s re
     rest e m =
         omega (arith, h e (List·Memᴰ·tail m), count-cons (λ (x : Entry). eqb (x .to) (e .to)) d s, mem-count (λ (x : Entry). eqb (x .to) (e .to)) s e m (eq-eqb (e .to) (e .to) refl))
 
-pub good-of : (s : Star) → starOk s ≡ true → AtMost 3 s → Good s
+pub good-of : (s : Star) → starOk s ≡ true → AtMost 3 s → GoodStar s
 unfolding starOk
 good-of s h small =
     let (ab, c) = and-parts _ _ h in
     let (a, b) = and-parts _ _ ab in
     record { sorted = sorted-of s a; small = small; has = λ k l. has-of s b k (four k l); once = once-of s c }
 
-pub of-good : (s : Star) → Good s → starOk s ≡ true
+pub of-good : (s : Star) → GoodStar s → starOk s ≡ true
 unfolding starOk
 of-good s g =
     and-both _ _
