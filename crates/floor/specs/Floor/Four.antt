@@ -23,6 +23,14 @@ pub record On (p : Place) (k : Side) (x : Knot p k) (v : Piece) : Type 0 where
   pub onc : x .c ≤ p .at (opp k) v
   pub ond : x .d ≤ p .at (prev k) v
 
+-- a point, seen in the next direction
+pub turn-knot : {p : Place} {k : Side} → Knot p k → Knot p (next k)
+turn-knot {p} {k} x = record { a = x .b; b = x .c; c = x .d; d = x .a; ac = x .bd; bd = omega (arith, x .ac, size-opp p k) }
+
+pub turn-on : {p : Place} {k : Side} (x : Knot p k) {v : Piece} → On p k x v → On p (next k) (turn-knot x) v
+unfolding turn-knot
+turn-on {p} {k} x {v} n = record { ona = n .onb; onb = n .onc; onc = n .ond; ond = rw (round k) (n .ona) }
+
 -- NO POINT IN FOUR
 abbrev pub NoFour : Stars → Place → Side → Type 0
 NoFour s p k = (x : Knot p k) (t u v w : Piece) → Known s t → Known s u → Known s v → Known s w → On p k x t → On p k x u → On p k x v → On p k x w

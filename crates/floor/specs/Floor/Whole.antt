@@ -30,17 +30,18 @@ ordered-map [] f h = tt
 ordered-map (v ∷ l) f h =
     (λ w m. f v w (List·Memᴰ·head refl) (List·Memᴰ·tail m) (h .0 w m), ordered-map l (λ x y m n. f x y (List·Memᴰ·tail m) (List·Memᴰ·tail n)) (h .1))
 
-pub beside-turned : {t r : Side} → Beside left t r → Beside right r t
-beside-turned nw = wn
-beside-turned sw = ws
-beside-turned en = ne
-beside-turned es = se
-
-pub beside-left : {t r : Side} → Beside right t r → Beside left r t
-beside-left wn = nw
-beside-left ws = sw
-beside-left ne = en
-beside-left se = es
+-- neighbouring frame sides, seen from the other one
+pub beside-back : (k t r : Side) → Beside (opp k) t r → Beside k r t
+beside-back right t r nw = wn
+beside-back right t r sw = ws
+beside-back right t r en = ne
+beside-back right t r es = se
+beside-back left t r wn = nw
+beside-back left t r ws = sw
+beside-back left t r ne = en
+beside-back left t r se = es
+beside-back up t r m = elim m [ ]
+beside-back down t r m = elim m [ ]
 
 -- frame sides that meet, by their shape alone
 module _ (s : Stars) (p : Place) (sh : Shape p) (inside : (k : Side) (v : Piece) → Known s v → p .at k v ≤ size p k) (thick : (k : Side) (v : Piece) → Known s v → size p k < p .at k v + p .at (opp k) v) (gap : p .at up (side down) + p .at down (side up) < p .height) where
@@ -77,7 +78,7 @@ module _ (s : Stars) (p : Place) (sh : Shape p) (inside : (k : Side) (v : Piece)
 
   pub frame-meets : (k t r : Side) → Beside k t r → Meets p k (side t) (side r)
   frame-meets right t r m = beside-meets m
-  frame-meets left t r m = flip right (beside-meets (beside-turned m))
+  frame-meets left t r m = flip right (beside-meets (beside-back right t r m))
   frame-meets up t r m = elim m [ ]
   frame-meets down t r m = elim m [ ]
 
@@ -85,7 +86,7 @@ module _ (s : Stars) (p : Place) (sh : Shape p) (inside : (k : Side) (v : Piece)
   frame-joined up t r m = absurd (no-touch t r (m .touch))
   frame-joined down t r m = absurd (no-touch r t (omega (arith, m .touch)))
   frame-joined right t r m = beside-right t r m
-  frame-joined left t r m = beside-left (beside-right r t (flip left m))
+  frame-joined left t r m = beside-back left r t (beside-right r t (flip left m))
 
 module _ (s : Stars) (p : Place) (g : Lawful s) (l : Local s p) where
   known : (k : Side) (i : ℕ) (v : Piece) → i < s .count → List·Memᴰ v (s .list k i) → Known s v
