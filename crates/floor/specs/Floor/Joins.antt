@@ -70,6 +70,12 @@ of-joined j u v (named n) = or-left _ _ (or-left _ _ (or-right (namesIn (starOf 
 of-joined j u v (around a) = or-left _ _ (or-right (namesIn (starOf j u) v || namesIn (starOf j v) u) _ (of-around a))
 of-joined j u v (around′ a) = or-right (namesIn (starOf j u) v || namesIn (starOf j v) u || nextSide u v) _ (of-around a)
 
+pub joined-back : {j : Job} {u v : ℕ} → Joined j u v → Joined j v u
+joined-back (names n) = named n
+joined-back (named n) = names n
+joined-back (around a) = around′ a
+joined-back (around′ a) = around a
+
 -- frame sides that are neighbours, as sides
 around-sides : {a b : ℕ} → Around a b → (t : Side) × (r : Side) × (k : Side) × (a ≡ num t) × (b ≡ num r) × Beside k t r
 around-sides n-w = (up, left, left, refl, refl, nw)
