@@ -17,7 +17,7 @@ use Rattle.floor.specs.Floor.Parts.{gap-of, good-local}
 use Rattle.floor.specs.Floor.Four.{Knot, On, NoFour, turn-knot, turn-on, four-corner, corner-four}
 use Rattle.floor.specs.Floor.Read.{num, number, piece, number-piece, piece-number, number-same, piece-same, few-sides, kind-side, starsOf, mem-entry, entry-mem, known-vertex, known-piece, entry-ok, lawful}
 use Rattle.floor.specs.Floor.Joins.{joined-contact, contact-joined, side-of}
-use Rattle.floor.specs.Floor.Placed.{reach, placeOf, tile-at, knot-at, inside-place, thick-place, stands-meets, meets-stands, in-cell, cell-at, point-at, on-point, cover-place, alone-place, order-lists, lists-order, Strict}
+use Rattle.floor.specs.Floor.Placed.{reach, placeOf, tile-at, knot-at, framed-shape, inside-place, thick-place, stands-meets, meets-stands, in-cell, cell-at, point-at, on-point, cover-place, alone-place, order-lists, lists-order, Strict}
 
 module _ (j : Job) (ok : Passes j) (p : Plan) where
   -- who meets is two
@@ -37,25 +37,7 @@ module _ (j : Job) (ok : Passes j) (p : Plan) where
     thick = thick-place j p (gp .inside)
 
     shape : Shape (placeOf p)
-    unfolding placeOf reach
-    shape =
-        let r : Framed p = gp .framed in
-        let e : Inside p (rectOf p 3) = gp .inside 3 (omega arith) in
-        let w : Inside p (rectOf p 1) = gp .inside 1 (omega arith) in
-        record {
-          w-left = omega (arith, r .w-x1);
-          w-up = r .w-y2;
-          w-down = omega (arith, r .w-y1);
-          e-right = r .e-x2;
-          e-up = r .e-y2;
-          e-down = omega (arith, r .e-y1);
-          n-up = r .n-y2;
-          n-left = omega (arith, r .n-x1, w .in-width);
-          n-right = omega (arith, r .n-x2, r .e-x2, e .wide);
-          s-down = omega (arith, r .s-y1);
-          s-left = omega (arith, r .s-x1, w .in-width);
-          s-right = omega (arith, r .s-x2, r .e-x2, e .wide);
-        }
+    shape = framed-shape p (gp .framed) (gp .inside 1 (omega arith)) (gp .inside 3 (omega arith))
 
     covered : (x y : ℕ) → x < p .width → y < p .height → (v : ℕ) × Vertex j v × Cell (rectOf p v) x y
     covered x y hx hy = let o : ExactlyOne j p x y = f .cover x y hx hy in (o .one, o .vertex, o .holds)

@@ -11,8 +11,8 @@ use borrow.Author.Tests.{eqb-true, eq-eqb}
 use Rattle.floor.specs.Lists.{keep}
 use Rattle.floor.specs.Jobs.{Entry, Star, Job, Vertex, listOf}
 use Rattle.floor.specs.Plans.{Rect, Plan, rectOf}
-use Rattle.floor.specs.Floor.{Cell, Point, Stands, Onward, Earlier, here, there, Inside}
-use Rattle.floor.specs.Floor.Sides.{Side, up, left, down, right, next, opp, prev, around, Piece, Place, size, Known, Meets, Tile, In, Ordered, Precedes}
+use Rattle.floor.specs.Floor.{Cell, Point, Stands, Onward, Earlier, here, there, Framed, Inside}
+use Rattle.floor.specs.Floor.Sides.{Side, up, left, down, right, next, opp, prev, around, Piece, Place, size, Known, Meets, Tile, In, Ordered, Precedes, Shape}
 use Rattle.floor.specs.Floor.Cover.{turn, turn-in, turn-out}
 use Rattle.floor.specs.Floor.Four.{Knot, On}
 use Rattle.floor.specs.Floor.Read.{num, number, piece, number-piece, piece-number, kind-side, starsOf, known-vertex, known-piece, number-same, mem-entry, entry-mem}
@@ -36,6 +36,24 @@ tile-at p x y hx hy = record { a = p .width - 1 - x; b = p .height - 1 - y; c = 
 unfoldable pub knot-at : (p : Plan) (x y : ℕ) → x ≤ p .width → y ≤ p .height → Knot (placeOf p) left
 unfolding placeOf
 knot-at p x y hx hy = record { a = p .width - x; b = p .height - y; c = x; d = y; ac = omega arith; bd = omega arith }
+
+-- the frame's shape
+pub framed-shape : (p : Plan) → Framed p → Inside p (rectOf p 1) → Inside p (rectOf p 3) → Shape (placeOf p)
+unfolding placeOf reach
+framed-shape p r w e = record {
+  w-left = omega (arith, r .w-x1);
+  w-up = r .w-y2;
+  w-down = omega (arith, r .w-y1);
+  e-right = r .e-x2;
+  e-up = r .e-y2;
+  e-down = omega (arith, r .e-y1);
+  n-up = r .n-y2;
+  n-left = omega (arith, r .n-x1, w .in-width);
+  n-right = omega (arith, r .n-x2, r .e-x2, e .wide);
+  s-down = omega (arith, r .s-y1);
+  s-left = omega (arith, r .s-x1, w .in-width);
+  s-right = omega (arith, r .s-x2, r .e-x2, e .wide);
+}
 
 module _ (j : Job) (p : Plan) (ins : (v : ℕ) → Vertex j v → Inside p (rectOf p v)) where
   pub inside-of : (v : Piece) → Known (starsOf j) v → Inside p (rectOf p (number v))
