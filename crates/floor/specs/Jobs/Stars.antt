@@ -11,7 +11,7 @@ use native.Mathlib.Omega.{arith}
 use borrow.Author.Tests.{leb-true, eqb-true, eqb-false, le-leb, eq-eqb, ne-eqb, not-true}
 use Rattle.floor.specs.Lists.{all, any, keep, chained, pairwise, isFirst, isLast}
 use Rattle.floor.specs.Jobs.{Entry, Star, starOk, names, kindOf, listOf}
-use Rattle.floor.specs.Lists.Laws.{and-left, and-right, and-parts, and-both, count, count-cons, mem-count, count-none, none-count, any-count, all-mem, mem-all}
+use Rattle.floor.specs.Lists.Laws.{no-false, mem-any, and-left, and-right, and-parts, and-both, count, count-cons, mem-count, count-none, none-count, any-count, all-mem, mem-all}
 
 abbrev pub entry : ℕ → ℕ → Entry
 entry v k = record { to = v; kind = k }
@@ -177,15 +177,15 @@ kindOf-mid (d ∷ P) v k Q h = go (eqb (d .to) v) refl (kindOf-mid P v k Q)
     go false e below = rw e (below (omega (arith, count-cons (λ (d : Entry). eqb (d .to) v) d P)))
 
 -- and what it finds is a member
-pub kindOf-mem : (s : Star) (v k : ℕ) → kindOf s v ≡ k → k ≤ 3 → List·Memᴰ (entry v k) s
-unfolding kindOf
-kindOf-mem [] v k h l = absurd (omega arith)
-kindOf-mem (d ∷ s) v k h l = go (eqb (d .to) v) refl (kindOf-mem s v k)
+pub kindOf-mem : (s : Star) (v : ℕ) → names s v ≡ true → List·Memᴰ (entry v (kindOf s v)) s
+unfolding names any kindOf
+kindOf-mem [] v h = no-false h
+kindOf-mem (d ∷ s) v h = go (eqb (d .to) v) refl (kindOf-mem s v)
   where
-    go : (b : Bool) → eqb (d .to) v ≡ b → (kindOf s v ≡ k → k ≤ 3 → List·Memᴰ (entry v k) s) → List·Memᴰ (entry v k) (d ∷ s)
-    go true e below =
-        let a : d .to ≡ v = eqb-true (d .to) v e in
-        let c : d .kind ≡ k = rw e at h in
-        List·Memᴰ·head (λ i. record { to = sym a i; kind = sym c i })
-    go false e below = List·Memᴰ·tail (below (rw e at h) l)
+    go : (b : Bool) → eqb (d .to) v ≡ b → (any (λ (e : Entry). eqb (e .to) v) s ≡ true → List·Memᴰ (entry v (kindOf s v)) s) → List·Memᴰ (entry v (cond (eqb (d .to) v) (d .kind) (kindOf s v))) (d ∷ s)
+    go true e below = let a : d .to ≡ v = eqb-true (d .to) v e in rw e (List·Memᴰ·head (λ i. record { to = sym a i; kind = d .kind }))
+    go false e below = rw e (List·Memᴰ·tail (below (rw e at h)))
 
+pub mem-names : (s : Star) (v k : ℕ) → List·Memᴰ (entry v k) s → names s v ≡ true
+unfolding names
+mem-names s v k m = mem-any (λ (e : Entry). eqb (e .to) v) s (entry v k) m (eq-eqb v v refl)
