@@ -113,7 +113,7 @@ module _ (s : Stars) (p : Place) (g : Lawful s) (q : Good s p) where
   meet k i v h m = q .meets k (room i) v h (known k i v h m) m
 
   -- of two entries, the earlier ends where the later begins, or before
-  before-gap : (k : Side) (i : ℕ) → i < s .count → (a b : Piece) → List·Memᴰ a (s .list k i) → List·Memᴰ b (s .list k i) → Precedes p k a b → p .at (next k) a + p .at (prev k) b ≤ size p (next k)
+  pub before-gap : (k : Side) (i : ℕ) → i < s .count → (a b : Piece) → List·Memᴰ a (s .list k i) → List·Memᴰ b (s .list k i) → Precedes p k a b → p .at (next k) a + p .at (prev k) b ≤ size p (next k)
   before-gap k i h a b ma mb e = go (decLe (p .at (next k) a + p .at (prev k) b) (size p (next k)))
     where
       ha : Known s a

@@ -144,7 +144,7 @@ module _ (j : Job) (p : Plan) (ins : (v : ℕ) → Vertex j v → Inside p (rect
       (λ x u v hu hv m n. number-same u v (once (x .c) (x .d) (number u) (number v) (known-vertex j u hu) (known-vertex j v hv) (in-cell x u m) (in-cell x v n)))
 
   -- THE ORDER of one list, and of a star
-  onward-precedes : (k : Side) (a b : ℕ) → Vertex j a → Vertex j b → Onward (num k) (rectOf p a) (rectOf p b) → Precedes (placeOf p) k (piece a) (piece b)
+  pub onward-precedes : (k : Side) (a b : ℕ) → Vertex j a → Vertex j b → Onward (num k) (rectOf p a) (rectOf p b) → Precedes (placeOf p) k (piece a) (piece b)
   unfolding placeOf reach
   onward-precedes up a b ha hb e = inl (rw (number-piece a, number-piece b) (omega (arith, ins a ha .wide, ins a ha .in-width)))
   onward-precedes left a b ha hb e = inl (rw (number-piece a, number-piece b) (omega (arith, ins a ha .tall, ins a ha .in-height)))
