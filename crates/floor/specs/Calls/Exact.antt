@@ -1,0 +1,155 @@
+-- Exactly which labellings are drawn and which jobs are loaded, by the text's numbers alone; and that every call answers. Assumes nothing.
+use Prim.Native.Nat.{ℕ, zero, suc, _+_, _≤_, _<_}
+use mathlib.Core.Path.{_≡_, refl, sym, ap, _∙_, fun-ext}
+use mathlib.Core.Logic.{_⊎_, inl, inr, _↔_}
+use mathlib.Core.Bool.{Bool, true, false, cond, _&&_}
+use mathlib.Core.Option.{Option, none, some}
+use mathlib.Core.List.{List}
+use native.Mathlib.Omega.{arith}
+use lib.Dec.{eqb}
+use lib.ListN.{length, getD}
+use Rattle.floor.specs.Fields.{Field, broken, field, readField}
+use Rattle.floor.specs.Jobs.{Job, opposite, readStars, test2, test3, test4, test5, test6, Reading, fails, reads, readRest, readRooms, readFirst, readJob}
+use Rattle.floor.specs.Jobs.Facts.{Passes, passes-of, of-passes}
+use Rattle.floor.specs.Walls.{Numbers, Axis, upright, level, rules, at, jobNumbers}
+use Rattle.floor.specs.Walls.Walk.{unique, numbers-respects}
+use Rattle.floor.specs.Walls.Rules.{numbered, numbers-are}
+use Rattle.floor.specs.Plans.{Plan, planOf, drawable, Answer, refused, held, past, test8, tested, planned, drawn}
+use Rattle.floor.specs.Plans.Held.{past-true, past-false, past-held, Drawn, drawn-held, drawn-again}
+use Rattle.floor.specs.Turns.{turn, turnAt, turnFrom, turned}
+use Rattle.floor.specs.Calls.{loadRead, load}
+use Rattle.floor.specs.Calls.Sound.{Sound, load-held, load-reads}
+
+-- A LABELLING NUMBERED AND TESTED, by the text alone: numbers for both directions, the plan by them, tests 8 and 9
+pub record Numbered (j : Job) (p : Plan) : Type 0 where
+  pub xs : ℕ → ℕ
+  pub ys : ℕ → ℕ
+  pub are-upright : Numbers (rules upright j) xs
+  pub are-level : Numbers (rules level j) ys
+  pub is-plan : p ≡ planOf j xs ys
+  pub small : test8 p ≡ true
+  pub draws : drawable j p ≡ true
+
+-- the text's numbers are the computed ones
+computed : (a : Axis) (j : Job) → Passes j → (f : ℕ → ℕ) → Numbers (rules a j) f → (l : List ℕ) × (jobNumbers a j ≡ some l) × (f ≡ at l)
+computed a j ok f n =
+    let (l, e) = numbered a j ok f (numbers-respects (rules a j) f n) in
+    (l, e, fun-ext (λ s. unique (rules a j) f (at l) n (numbers-are a j ok l e) s))
+
+module _ (j : Job) (ok : Passes j) (p : Plan) where
+  pub drawn-numbered : Drawn j p → Numbered j p
+  drawn-numbered d = record {
+    xs = at (d .xs);
+    ys = at (d .ys);
+    are-upright = numbers-are upright j ok (d .xs) (d .is-upright);
+    are-level = numbers-are level j ok (d .ys) (d .is-level);
+    is-plan = d .is-plan;
+    small = d .small;
+    draws = d .draws;
+  }
+
+  pub numbered-drawn : Numbered j p → Drawn j p
+  numbered-drawn n =
+      let (f, ef, qf) = computed upright j ok (n .xs) (n .are-upright) in
+      let (g, eg, qg) = computed level j ok (n .ys) (n .are-level) in
+      record { xs = f; ys = g; is-upright = ef; is-level = eg; is-plan = n .is-plan ∙ ap (λ x. planOf j x (n .ys)) qf ∙ ap (λ y. planOf j (at f) y) qg; small = n .small; draws = n .draws }
+
+-- A JOB THAT THE RULES ACCEPT: read past tests 1 and 2, past tests 3 to 6, numbered and tested
+pub record Accepted (bs : List ℕ) (j : Job) (p : Plan) : Type 0 where
+  pub reading : readJob bs ≡ reads j
+  pub pass3 : test3 j ≡ true
+  pub pass4 : test4 j ≡ true
+  pub pass5 : test5 j ≡ true
+  pub pass6 : test6 j ≡ true
+  pub is-numbered : Numbered j p
+
+-- LOADED EXACTLY WHEN THE RULES SAY SO
+pub accepted : (bs : List ℕ) (j : Job) (p : Plan) → (load bs ≡ held j p) ↔ Accepted bs j p
+unfolding load loadRead
+accepted bs j p = (forth, back)
+  where
+    forth : load bs ≡ held j p → Accepted bs j p
+    forth h =
+        let (r, s) = load-held bs j p h in
+        let (t4, t5, t6) = of-passes j (s .passes) in
+        record { reading = r; pass3 = s .pass3; pass4 = t4; pass5 = t5; pass6 = t6; is-numbered = drawn-numbered j (s .passes) p (s .is-drawn) }
+
+    back : Accepted bs j p → load bs ≡ held j p
+    back a =
+        ap loadRead (a .reading)
+        ∙ past-true (test3 j) 3 _ (a .pass3)
+        ∙ past-true (test4 j) 4 _ (a .pass4)
+        ∙ past-true (test5 j) 5 _ (a .pass5)
+        ∙ past-true (test6 j) 6 _ (a .pass6)
+        ∙ drawn-again j p (numbered-drawn j (passes-of j (a .pass4) (a .pass5) (a .pass6)) p (a .is-numbered))
+
+-- a plan, or one refusal whose number is among those of the call
+abbrev pub Answers : ℕ → ℕ → Answer → Type 0
+Answers least most (refused k) = (least ≤ k) × (k ≤ most)
+Answers least most (held j p) = Unit {0}
+
+wider : (a b c d : ℕ) (r : Answer) → a ≤ c → d ≤ b → Answers c d r → Answers a b r
+wider a b c d (refused k) h i n = (omega (arith, n .0), omega (arith, n .1))
+wider a b c d (held j p) h i n = tt
+
+past-answers : (a b : ℕ) (t : Bool) (k : ℕ) (next : Unit {0} → Answer) → a ≤ k → k ≤ b → Answers a b (next tt) → Answers a b (past t k next)
+unfolding past
+past-answers a b true k next h i n = n
+past-answers a b false k next h i n = (h, i)
+
+drawn-answers : (j : Job) → Answers 7 9 (drawn j)
+unfolding drawn
+drawn-answers j = go (jobNumbers upright j) (jobNumbers level j)
+  where
+    go : (a b : Option (List ℕ)) → Answers 7 9 (planned j a b)
+    go none none = unfold planned in (omega arith, omega arith)
+    go none (some g) = unfold planned in (omega arith, omega arith)
+    go (some f) none = unfold planned in (omega arith, omega arith)
+    go (some f) (some g) = unfold planned tested in past-answers 7 9 (test8 (planOf j (at f) (at g))) 8 _ (omega arith) (omega arith) (past-answers 7 9 (drawable j (planOf j (at f) (at g))) 9 _ (omega arith) (omega arith) tt)
+
+-- what fails in reading fails by 1 or 2
+abbrev Fails : Reading → Type 0
+Fails (fails k) = (1 ≤ k) × (k ≤ 2)
+Fails (reads j) = Unit {0}
+
+read-answers : (f : Field) → Fails (readFirst f)
+unfolding readFirst
+read-answers broken = (omega arith, omega arith)
+read-answers (field t v rest) = go (eqb t 1 && eqb (length v) 1) (test2 (getD v 0 0)) (getD v 0 0)
+  where
+    rest-answers : (o : Option Job) → Fails (readRest o)
+    rest-answers none = unfold readRest in (omega arith, omega arith)
+    rest-answers (some j) = unfold readRest in tt
+
+    rooms-answers : (b : Bool) (n : ℕ) → Fails (readRooms b n rest)
+    rooms-answers true n = unfold readRooms in rest-answers (readStars n rest)
+    rooms-answers false n = unfold readRooms in (omega arith, omega arith)
+
+    go : (a b : Bool) (n : ℕ) → Fails (cond a (readRooms b n rest) (fails 1))
+    go true b n = rooms-answers b n
+    go false b n = (omega arith, omega arith)
+
+-- EVERY LOAD ANSWERS: a plan, or one of the refusals 1 to 9
+pub load-answers : (bs : List ℕ) → Answers 1 9 (load bs)
+unfolding load readJob
+load-answers bs = go (readFirst (readField bs)) (read-answers (readField bs))
+  where
+    go : (r : Reading) → Fails r → Answers 1 9 (loadRead r)
+    go (fails k) h = unfold loadRead in (omega arith, omega arith)
+    go (reads j) h = unfold loadRead in
+        past-answers 1 9 (test3 j) 3 _ (omega arith) (omega arith)
+        (past-answers 1 9 (test4 j) 4 _ (omega arith) (omega arith)
+        (past-answers 1 9 (test5 j) 5 _ (omega arith) (omega arith)
+        (past-answers 1 9 (test6 j) 6 _ (omega arith) (omega arith) (wider 1 9 7 9 (drawn j) (omega arith) (omega arith) (drawn-answers j)))))
+
+-- EVERY TURN of a held plan ANSWERS: a plan, or one of the refusals 7 to 12 (10 is given where no plan is held)
+pub turn-answers : (j : Job) (u v : ℕ) → Answers 7 12 (turn j u v)
+unfolding turn
+turn-answers j u v = past-answers 7 12 _ 11 _ (omega arith) (omega arith) (go _ u v _)
+  where
+    at-answers : (a b k : ℕ) → Answers 7 12 (turnAt j a b k)
+    at-answers a b k = unfold turnAt in past-answers 7 12 _ 12 _ (omega arith) (omega arith) (wider 7 12 7 9 (drawn (turned j a b k)) (omega arith) (omega arith) (drawn-answers (turned j a b k)))
+
+    go : (c : Bool) (u v k : ℕ) → Answers 7 12 (turnFrom c j u v k)
+    go true u v k = unfold turnFrom in at-answers u v k
+    go false u v k = unfold turnFrom in at-answers v u (opposite k)
