@@ -1,13 +1,11 @@
 -- THE THREE DEMANDS of the customer, as theorems. Assumes nothing.
 use Prim.Native.Nat.{ℕ, _+_, _≤_, _<_}
-use mathlib.Core.Path.{_≡_, sym, ap, _∙_}
+use mathlib.Core.Path.{_≡_}
 use mathlib.Core.Logic.{_⊎_, _↔_}
-use mathlib.Core.Bool.{Bool, true, false, not, _&&_}
+use mathlib.Core.Bool.{true}
 use mathlib.Core.Option.{some}
 use mathlib.Core.List.{List, List·Memᴰ}
-use lib.ListN.{length, take}
-use lib.Dec.{eqb}
-use native.Mathlib.Omega.{arith}
+use lib.ListN.{length}
 use borrow.Author.Tests.{ne-eqb}
 use Rattle.floor.specs.Lists.Laws.{same-test}
 use Rattle.floor.specs.Fields.{Bytes}
@@ -15,16 +13,16 @@ use Rattle.floor.specs.Jobs.{Job, Vertex, Room, opposite, starOf, writeJ
 use Rattle.floor.specs.Jobs.Stars.{entry, ofKind}
 use Rattle.floor.specs.Jobs.Facts.{Passes}
 use Rattle.floor.specs.Walls.{Circle, upright, level, rules, at, jobNumbers}
-use Rattle.floor.specs.Plans.{Plan, rectOf, share, planOf, joined, Answer, refused, held, test8, drawn}
+use Rattle.floor.specs.Plans.{Plan, rectOf, share, planOf, joined, refused, held, test8, drawn}
 use Rattle.floor.specs.Plans.Held.{seven, nine, width-bound, height-bound}
 use Rattle.floor.specs.Floor.{Shares, Joined, Floor}
 use Rattle.floor.specs.Floor.Joins.{joined-of, of-joined}
 use Rattle.floor.specs.Floor.Draws.{shares-of, of-shares}
-use Rattle.floor.specs.Turns.{turned, turn}
+use Rattle.floor.specs.Turns.{turned}
 use Rattle.floor.specs.Turns.Restore.{Kept, turned-keeps}
-use Rattle.floor.specs.Calls.{load, Board, empty, holding, Call, loads, turns, writesJob, Reply, refusal, done, wrote, Step, lent, sharing, step, run}
-use Rattle.floor.specs.Calls.Sound.{Sound, some-room, sound-good, any-calls-sound}
-use Rattle.floor.specs.Calls.Effects.{Left, refused-leaves, Written, wrote-job, write-load, load-write, Restored, turn-turn}
+use Rattle.floor.specs.Calls.{load, Board, empty, holding, Call, loads, turns, refusal, done, lent, sharing, step, run}
+use Rattle.floor.specs.Calls.Sound.{Sound, sound-good, any-calls-sound}
+use Rattle.floor.specs.Calls.Effects.{Left, refused-leaves, write-load, load-write, Restored, turn-turn}
 use Rattle.floor.specs.Calls.Exact.{Numbered, drawn-numbered, Accepted, accepted, Answers, load-answers}
 
 -- DEMAND 1. Every job, however damaged or contradictory, gets an answer: a plan or one numbered refusal.
@@ -50,7 +48,8 @@ written-and-read cs j p h b = write-load b j p (any-calls-sound cs j p h)
 pub read-and-written : (bs : List ℕ) (j : Job) (p : Plan) → Bytes bs → load bs ≡ held j p → writeJob j ≡ bs
 read-and-written = load-write
 
--- DEMAND 3. Start from an empty board and make any calls. Whenever a plan is held, it is a floor plan for the job now held: each unit cell in exactly one rectangle,
+-- DEMAND 3. Start from an empty board and make any calls. Whenever a plan is held, it is a floor plan for the job now held: each unit cell in exactly one
+-- rectangle,
 -- no point in four, two share a wall exactly if joined, neighbours in the order held.
 pub any-calls-floor : (cs : List Call) (j : Job) (p : Plan) → run empty cs ≡ holding j p → Floor j p
 any-calls-floor cs j p h = sound-good j p (any-calls-sound cs j p h) .floor
@@ -64,10 +63,15 @@ pub any-calls-bound : (cs : List Call) (j : Job) (p : Plan) → run empty cs ≡
 any-calls-bound cs j p h =
     let s : Sound j p = any-calls-sound cs j p h in
     let n : Numbered j p = drawn-numbered j (s .passes) p (s .is-drawn) in
-    rw (n .is-plan) (width-bound j (s .passes) (n .xs) (n .ys) (n .are-upright) (n .are-level), height-bound j (s .passes) (n .xs) (n .ys) (n .are-upright) (n .are-level))
+    rw (n .is-plan) (
+      width-bound j (s .passes) (n .xs) (n .ys) (n .are-upright) (n .are-level),
+      height-bound j (s .passes) (n .xs) (n .ys)
+          (n .are-upright) (n .are-level),
+    )
 
 -- The question whether two vertices share a wall is answered yes exactly if the job joins them or they are neighbouring sides of the frame.
-pub any-calls-share : (cs : List Call) (j : Job) (p : Plan) → run empty cs ≡ holding j p → (u v : ℕ) → Vertex j u → Vertex j v → (u ≡ v → ⊥) → sharing p u v ≡ joined j u v
+pub any-calls-share : (cs : List Call) (j : Job) (p : Plan) → run empty cs ≡ holding j p → (u v : ℕ) → Vertex j u → Vertex j v → (u ≡ v → ⊥)
+    → sharing p u v ≡ joined j u v
 unfolding sharing
 any-calls-share cs j p h u v hu hv ne = rw (ne-eqb u v ne) (same-test (share (rectOf p u) (rectOf p v)) (joined j u v) forth back)
   where
@@ -81,16 +85,20 @@ any-calls-share cs j p h u v hu hv ne = rw (ne-eqb u v ne) (same-test (share (re
     back e = of-shares (rectOf p u) (rectOf p v) (same .1 (joined-of j u v e))
 
 -- A job that has passed every earlier test is refused as undrawable exactly when its numbered rectangles break one of these,
-pub undrawable-exactly : (j : Job) → Passes j → 0 < length j → (f g : List ℕ) → jobNumbers upright j ≡ some f → jobNumbers level j ≡ some g → test8 (planOf j (at f) (at g)) ≡ true
+pub undrawable-exactly : (j : Job) → Passes j → 0 < length j → (f g : List ℕ) → jobNumbers upright j ≡ some f → jobNumbers level j ≡ some g
+    → test8 (planOf j (at f) (at g)) ≡ true
     → (drawn j ≡ refused 9) ↔ (Floor j (planOf j (at f) (at g)) → ⊥)
 undrawable-exactly j ok h = nine j ok h
 
 -- and so is a turned labelling: b on side m of a, at least two on either list. It passes tests 4 to 6, has as many pairs, and joins the same.
-pub turned-labelling : (cs : List Call) (j : Job) (p : Plan) → run empty cs ≡ holding j p → (a b m : ℕ) → Room j a → Room j b → List·Memᴰ (entry b m) (starOf j a)
+pub turned-labelling : (cs : List Call) (j : Job) (p : Plan) → run empty cs ≡ holding j p → (a b m : ℕ) → Room j a → Room j b
+    → List·Memᴰ (entry b m) (starOf j a)
     → 2 ≤ ofKind m (starOf j a) → 2 ≤ ofKind (opposite m) (starOf j b) → Kept j (turned j a b m)
 turned-labelling cs j p h = let s : Sound j p = any-calls-sound cs j p h in turned-keeps j (s .passes) p (sound-good j p s)
 
--- An accepted turn made again at once, with no other call that changes the plan between, is accepted and gives back the plan before it, in either order of the numbers.
+-- An accepted turn made again at once, with no other call that changes the plan between, is accepted and gives back the plan before it, in either order of
+-- the numbers.
 pub turned-again : (cs ds : List Call) (j : Job) (p : Plan) (u v : ℕ) → run empty cs ≡ holding j p → step (holding j p) (turns u v) .reply ≡ done
-    → (b : Board) → b ≡ step (holding j p) (turns u v) .board → run b ds ≡ b → Restored (holding j p) (step (run b ds) (turns u v)) × Restored (holding j p) (step (run b ds) (turns v u))
+    → (b : Board) → b ≡ step (holding j p) (turns u v) .board → run b ds ≡ b → Restored (holding j p) (step (run b ds) (turns u v)) × Restored
+    (holding j p) (step (run b ds) (turns v u))
 turned-again cs ds j p u v h e b q r = rw (r, q) (turn-turn j p u v (any-calls-sound cs j p h) e)

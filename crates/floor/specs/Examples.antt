@@ -7,9 +7,9 @@ use lib.Dec.{eqb}
 use lib.ListN.{replicate}
 use Rattle.floor.specs.Lists.{all, any, keep, pairwise, chained, sum, upFrom, isFirst, isLast}
 use Rattle.floor.specs.Fields.{readField, restOf, writeField}
-use Rattle.floor.specs.Jobs.{opposite, frameKind, rooms, isVertex, isRoom, starOf, names, lists, kindOf, listOf, pairsIn, test2, test3, entryOk}
-use Rattle.floor.specs.Jobs.{test4, starOk, test5, test6, entries, starThen, readStars, readRest, readRooms, readFirst, readJob, starBytes}
-use Rattle.floor.specs.Jobs.{writeStars, writeJob}
+use Rattle.floor.specs.Jobs.{opposite, frameKind, rooms, isVertex, isRoom, starOf, names, lists, kindOf, listOf, pairsIn, test2, test3, entryOk, test4}
+use Rattle.floor.specs.Jobs.{starOk, test5, test6, entries, starThen, readStars, readRest, readRooms, readFirst, readJob, starBytes, writeStars}
+use Rattle.floor.specs.Jobs.{writeJob}
 use Rattle.floor.specs.Walls.{entryRules, starRules, rulesFrom, raise, relax1, relax, meets, over, passes, numbersOf, jobNumbers}
 use Rattle.floor.specs.Plans.{Rect, rectOf, roomRect, planOf, inside, overlap, abut, apart, area, share, corner, nextSide, joined, sharesJoined}
 use Rattle.floor.specs.Plans.{follows, inOrder, drawable, past, test8, tested, planned, drawn, rectBytes, writeRects, writePlan}
@@ -237,5 +237,10 @@ table =
 
 -- EVERY ROW HOLDS
 pub examples : all right table ≡ true
-unfolding p1 p5 p6 p7 jobF p10 floorP1 floorP5 floorF turnedF planP1 same numbers plan told right table all any keep pairwise chained sum upFrom isFirst isLast readField restOf writeField opposite frameKind rooms isVertex isRoom starOf names lists kindOf listOf pairsIn test2 test3 entryOk test4 starOk test5 test6 entries starThen readStars readRest readRooms readFirst readJob starBytes writeStars writeJob entryRules starRules rulesFrom raise relax1 relax meets over passes numbersOf jobNumbers rectOf roomRect planOf inside overlap abut apart area share corner nextSide joined sharesJoined follows inOrder drawable past test8 tested planned drawn rectBytes writeRects writePlan turnedKind withKind rekinded turned turnAt turnFrom inContact turn loadRead load refuse after asks writes sharing step run
+unfolding p1 p5 p6 p7 jobF p10 floorP1 floorP5 floorF turnedF planP1 same numbers plan told right table all any keep pairwise chained sum upFrom isFirst
+    isLast readField restOf writeField opposite frameKind rooms isVertex isRoom starOf names lists kindOf listOf pairsIn test2 test3 entryOk test4 starOk
+    test5 test6 entries starThen readStars readRest readRooms readFirst readJob starBytes writeStars writeJob entryRules starRules rulesFrom raise relax1
+    relax meets over passes numbersOf jobNumbers rectOf roomRect planOf inside overlap abut apart area share corner nextSide joined sharesJoined follows
+    inOrder drawable past test8 tested planned drawn rectBytes writeRects writePlan turnedKind withKind rekinded turned turnAt turnFrom inContact turn
+    loadRead load refuse after asks writes sharing step run
 examples = refl

@@ -1,8 +1,7 @@
 -- What a sound board writes: bytes, and how many. Assumes nothing.
-use Prim.Native.Nat.{ℕ, _+_, _-_, _*_, _≤_, _<_}
-use mathlib.Core.Path.{_≡_, refl, sym, ap, _∙_}
-use mathlib.Core.Bool.{Bool, true, _&&_}
-use mathlib.Core.List.{List, [], _∷_, _++_, List·Memᴰ, List·Memᴰ·head, List·Memᴰ·tail}
+use Prim.Native.Nat.{ℕ, _+_, _*_, _≤_, _<_}
+use mathlib.Core.Path.{_≡_, refl, ap}
+use mathlib.Core.List.{List, [], _∷_, List·Memᴰ, List·Memᴰ·head, List·Memᴰ·tail}
 use lib.ListN.{length, getD, length-append}
 use lib.Dec.{leb}
 use native.Mathlib.Omega.{arith}
@@ -14,7 +13,7 @@ use Rattle.floor.specs.Fields.Laws.{bytes-append, bytes-field, length-fi
 use Rattle.floor.specs.Jobs.{Entry, Star, Job, Vertex, pairsIn, test2, test3, writeJob}
 use Rattle.floor.specs.Jobs.Written.{length-writeJob, bytes-job}
 use Rattle.floor.specs.Plans.{Rect, Plan, nowhere, rectOf, test8, rectBytes, writeRects, writePlan}
-use Rattle.floor.specs.Floor.{Complete, Inside, GoodPlan}
+use Rattle.floor.specs.Floor.{Inside, GoodPlan}
 use Rattle.floor.specs.Floor.Read.{entry-ok}
 use Rattle.floor.specs.Calls.Sound.{Sound, sound-good}
 
@@ -31,13 +30,19 @@ length-rects (r ∷ rs) = omega (arith, length-append (writeField 4 (rectBytes r
 pub length-writePlan : (p : Plan) → length (writePlan p) ≡ 5 + 8 * length (p .rects)
 unfolding writePlan
 length-writePlan p =
-    omega (arith, length-append (writeField 3 (p .width ∷ p .height ∷ [])) (writeRects (p .rects)), length-field 3 (p .width ∷ p .height ∷ []), length-rects (p .rects))
+    omega (
+      arith,
+      length-append (writeField 3 (p .width ∷ p .height ∷ [])) (writeRects (p .rects)),
+      length-field 3 (p .width ∷ p .height ∷ []),
+      length-rects (p .rects),
+    )
 
 rects-bytes : (rs : List Rect) → ((r : Rect) → List·Memᴰ r rs → Bytes (rectBytes r)) → Bytes (writeRects rs)
 unfolding writeRects rectBytes
 rects-bytes [] h = tt
 rects-bytes (r ∷ rs) h =
-    bytes-append (writeField 4 (rectBytes r)) (writeRects rs) (bytes-field 4 (rectBytes r) (omega arith) (omega arith) (h r (List·Memᴰ·head refl))) (rects-bytes rs (λ q i. h q (List·Memᴰ·tail i)))
+    bytes-append (writeField 4 (rectBytes r)) (writeRects rs) (bytes-field 4 (rectBytes r) (omega arith) (omega arith) (h r (List·Memᴰ·head refl)))
+    (rects-bytes rs (λ q i. h q (List·Memᴰ·tail i)))
 
 module _ (j : Job) (p : Plan) (s : Sound j p) where
   -- the limits that were tested
@@ -66,15 +71,21 @@ module _ (j : Job) (p : Plan) (s : Sound j p) where
   rect-bytes : (v : ℕ) → Vertex j v → Bytes (rectBytes (rectOf p v))
   unfolding rectBytes
   rect-bytes v h =
-      let i : Inside p (rectOf p v) = gp .inside v h in
-      (omega (arith, gp .floor .complete .vertex v h, limits .0), (omega (arith, i .wide, i .in-width, limits .2), (omega (arith, i .tall, i .in-height, limits .3), (omega (arith, i .in-width, limits .2), (omega (arith, i .in-height, limits .3), tt)))))
+      let i : Inside p (rectOf p v) = gp .inside v h in (
+        omega (arith, gp .floor .complete .vertex v h, limits .0),
+        (
+          omega (arith, i .wide, i .in-width, limits .2),
+          (omega (arith, i .tall, i .in-height, limits .3), (omega (arith, i .in-width, limits .2), (omega (arith, i .in-height, limits .3), tt))),
+        ),
+      )
 
   -- A WRITTEN PLAN IS BYTES
   pub plan-bytes : Bytes (writePlan p)
   unfolding writePlan rectOf
   plan-bytes =
       bytes-append (writeField 3 (p .width ∷ p .height ∷ [])) (writeRects (p .rects))
-      (bytes-field 3 (p .width ∷ p .height ∷ []) (omega arith) (omega arith) (omega (arith, limits .2), (omega (arith, limits .3), tt))) (rects-bytes (p .rects) each)
+      (bytes-field 3 (p .width ∷ p .height ∷ []) (omega arith) (omega arith) (omega (arith, limits .2), (omega (arith, limits .3), tt)))
+      (rects-bytes (p .rects) each)
     where
       each : (r : Rect) → List·Memᴰ r (p .rects) → Bytes (rectBytes r)
       each r m = let (v, l, q) = getD-mem (p .rects) r nowhere m in rw q at (rect-bytes v (omega (arith, gp .floor .complete .count)))

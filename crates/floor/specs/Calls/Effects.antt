@@ -1,23 +1,23 @@
--- What one call does: a refusal leaves all as it was, a writing fills the front of the buffer, what is written loads as the same board, and a turn made again restores it.
+-- What one call does: a refusal leaves all as it was, a writing fills the front of the buffer, what is written loads as the same board, and a turn made again
+-- restores it.
 -- Assumes nothing.
-use Prim.Native.Nat.{ℕ, _+_, _≤_, _<_}
+use Prim.Native.Nat.{ℕ, _≤_}
 use mathlib.Core.Path.{_≡_, refl, sym, ap, _∙_}
-use mathlib.Core.Bool.{Bool, true, false, _&&_}
-use mathlib.Core.List.{List, [], _∷_, _++_}
+use mathlib.Core.Bool.{Bool, true, false}
+use mathlib.Core.List.{List, []}
 use lib.ListN.{length, take, drop, length-append, length-drop}
 use lib.Seq.{take-at, drop-at}
-use lib.Dec.{leb}
 use native.Mathlib.Omega.{arith}
 use borrow.Author.Tests.{leb-true}
 use Rattle.floor.specs.Fields.{Bytes}
-use Rattle.floor.specs.Jobs.{Job, reads, readJob, writeJob}
+use Rattle.floor.specs.Jobs.{Job, writeJob}
 use Rattle.floor.specs.Jobs.Written.{read-write-job, write-read-job}
 use Rattle.floor.specs.Plans.{Plan, Answer, refused, held, drawn, writePlan}
 use Rattle.floor.specs.Plans.Held.{drawn-held, drawn-again}
 use Rattle.floor.specs.Turns.{turned, turn}
 use Rattle.floor.specs.Turns.Restore.{Asked, asked, turned-restores}
-use Rattle.floor.specs.Calls.{load, Board, empty, holding, Call, loads, turns, rectangle, shares, writesJob, writesPlan, Reply, refusal, done, spans, says, wrote, Step}
-use Rattle.floor.specs.Calls.{lent, refuse, after, asks, writes, step}
+use Rattle.floor.specs.Calls.{load, Board, empty, holding, Call, loads, turns, rectangle, shares, writesJob, writesPlan, Reply, refusal, done, wrote}
+use Rattle.floor.specs.Calls.{Step, lent, refuse, after, asks, writes, step}
 use Rattle.floor.specs.Calls.Sound.{Sound, sound-good, load-held, load-reads}
 
 -- the board and the buffer as they were
@@ -70,7 +70,8 @@ pub record Written (b : Board) (bs buf : List ℕ) (n : ℕ) (s : Step) : Type 0
   pub behind : drop n (s .buffer) ≡ drop n buf
   pub same-length : length (s .buffer) ≡ length buf
 
-writes-wrote : (b : Board) (t : Bool) (bs buf : List ℕ) (n : ℕ) → (t ≡ true → length bs ≤ length buf) → writes b t bs buf .reply ≡ wrote n → Written b bs buf n (writes b t bs buf)
+writes-wrote : (b : Board) (t : Bool) (bs buf : List ℕ) (n : ℕ) → (t ≡ true → length bs ≤ length buf) → writes b t bs buf .reply ≡ wrote n
+    → Written b bs buf n (writes b t bs buf)
 unfolding writes refuse
 writes-wrote b true bs buf n h e =
     let q : n ≡ length bs = cc in
@@ -83,11 +84,13 @@ writes-wrote b true bs buf n h e =
     }
 writes-wrote b false bs buf n h e = let z : _≡_ {A = ℕ} 0 1 = cc in absurd (omega arith)
 
-pub wrote-job : (j : Job) (p : Plan) (buf : List ℕ) (n : ℕ) → step (holding j p) (writesJob buf) .reply ≡ wrote n → Written (holding j p) (writeJob j) buf n (step (holding j p) (writesJob buf))
+pub wrote-job : (j : Job) (p : Plan) (buf : List ℕ) (n : ℕ) → step (holding j p) (writesJob buf) .reply ≡ wrote n
+    → Written (holding j p) (writeJob j) buf n (step (holding j p) (writesJob buf))
 unfolding step
 wrote-job j p buf n e = writes-wrote (holding j p) _ (writeJob j) buf n (leb-true (length (writeJob j)) (length buf)) e
 
-pub wrote-plan : (j : Job) (p : Plan) (buf : List ℕ) (n : ℕ) → step (holding j p) (writesPlan buf) .reply ≡ wrote n → Written (holding j p) (writePlan p) buf n (step (holding j p) (writesPlan buf))
+pub wrote-plan : (j : Job) (p : Plan) (buf : List ℕ) (n : ℕ) → step (holding j p) (writesPlan buf) .reply ≡ wrote n
+    → Written (holding j p) (writePlan p) buf n (step (holding j p) (writesPlan buf))
 unfolding step
 wrote-plan j p buf n e = writes-wrote (holding j p) _ (writePlan p) buf n (leb-true (length (writePlan p)) (length buf)) e
 
@@ -115,17 +118,22 @@ unfolding after
 after-restored b r j p e = rw e (record { accepted = refl; same-board = refl })
 
 pub turn-turn : (j : Job) (p : Plan) (u v : ℕ) → Sound j p → step (holding j p) (turns u v) .reply ≡ done
-    → Restored (holding j p) (step (step (holding j p) (turns u v) .board) (turns u v)) × Restored (holding j p) (step (step (holding j p) (turns u v) .board) (turns v u))
+    → Restored (holding j p) (step (step (holding j p) (turns u v) .board) (turns u v)) × Restored (holding j p)
+    (step (step (holding j p) (turns u v) .board) (turns v u))
 unfolding step
 turn-turn j p u v s e = go (turn j u v) refl e
   where
     go : (r : Answer) → turn j u v ≡ r → after (holding j p) r .reply ≡ done
-        → Restored (holding j p) (step (after (holding j p) (turn j u v) .board) (turns u v)) × Restored (holding j p) (step (after (holding j p) (turn j u v) .board) (turns v u))
+        → Restored (holding j p) (step (after (holding j p) (turn j u v) .board) (turns u v)) × Restored (holding j p)
+        (step (after (holding j p) (turn j u v) .board) (turns v u))
     go (refused k) q e = no-refusal {k = k} (sym (unfold after refuse in e))
     go (held i r) q e =
         let k : Asked j u v (held i r) = asked j u v i r (s .passes) q in
         let x : i ≡ turned j (k .a) (k .b) (k .m) = drawn-held (turned j (k .a) (k .b) (k .m)) i r (k .is) .0 in
         let (y, z) = turned-restores j (s .passes) p (sound-good j p s) u v (held i r) k in
         let d : drawn j ≡ held j p = drawn-again j p (s .is-drawn) in
-        rw (after-held (holding j p) (turn j u v) i r q)
-        (after-restored (holding i r) (turn i u v) j p (ap (λ (h : Job). turn h u v) x ∙ y ∙ d), after-restored (holding i r) (turn i v u) j p (ap (λ (h : Job). turn h v u) x ∙ z ∙ d))
+        rw (after-held (holding j p) (turn j u v) i r q) (
+          after-restored (holding i r) (turn i u v) j p (ap (λ (h : Job). turn h u v) x ∙ y ∙ d),
+          after-restored (holding i r) (turn i v u) j p
+              (ap (λ (h : Job). turn h v u) x ∙ z ∙ d),
+        )

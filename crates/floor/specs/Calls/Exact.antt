@@ -1,7 +1,7 @@
 -- Exactly which labellings are drawn and which jobs are loaded, by the text's numbers alone; and that every call answers. Assumes nothing.
-use Prim.Native.Nat.{ℕ, zero, suc, _+_, _≤_, _<_}
-use mathlib.Core.Path.{_≡_, refl, sym, ap, _∙_, fun-ext}
-use mathlib.Core.Logic.{_⊎_, inl, inr, _↔_}
+use Prim.Native.Nat.{ℕ, _≤_}
+use mathlib.Core.Path.{_≡_, ap, _∙_, fun-ext}
+use mathlib.Core.Logic.{_↔_}
 use mathlib.Core.Bool.{Bool, true, false, cond, _&&_}
 use mathlib.Core.Option.{Option, none, some}
 use mathlib.Core.List.{List}
@@ -9,16 +9,17 @@ use native.Mathlib.Omega.{arith}
 use lib.Dec.{eqb}
 use lib.ListN.{length, getD}
 use Rattle.floor.specs.Fields.{Field, broken, field, readField}
-use Rattle.floor.specs.Jobs.{Job, opposite, readStars, test2, test3, test4, test5, test6, Reading, fails, reads, readRest, readRooms, readFirst, readJob}
+use Rattle.floor.specs.Jobs.{Job, opposite, readStars, test2, test3, test4, test5, test6, Reading, fails, reads, readRest, readRooms, readFirst}
+use Rattle.floor.specs.Jobs.{readJob}
 use Rattle.floor.specs.Jobs.Facts.{Passes, passes-of, of-passes}
 use Rattle.floor.specs.Walls.{Numbers, Axis, upright, level, rules, at, jobNumbers}
 use Rattle.floor.specs.Walls.Walk.{unique, numbers-respects}
 use Rattle.floor.specs.Walls.Rules.{numbered, numbers-are}
 use Rattle.floor.specs.Plans.{Plan, planOf, drawable, Answer, refused, held, past, test8, tested, planned, drawn}
-use Rattle.floor.specs.Plans.Held.{past-true, past-false, past-held, Drawn, drawn-held, drawn-again}
+use Rattle.floor.specs.Plans.Held.{past-true, Drawn, drawn-again}
 use Rattle.floor.specs.Turns.{turn, turnAt, turnFrom, turned}
 use Rattle.floor.specs.Calls.{loadRead, load}
-use Rattle.floor.specs.Calls.Sound.{Sound, load-held, load-reads}
+use Rattle.floor.specs.Calls.Sound.{load-held}
 
 -- A LABELLING NUMBERED AND TESTED, by the text alone: numbers for both directions, the plan by them, tests 8 and 9
 pub record Numbered (j : Job) (p : Plan) : Type 0 where
@@ -52,7 +53,15 @@ module _ (j : Job) (ok : Passes j) (p : Plan) where
   numbered-drawn n =
       let (f, ef, qf) = computed upright j ok (n .xs) (n .are-upright) in
       let (g, eg, qg) = computed level j ok (n .ys) (n .are-level) in
-      record { xs = f; ys = g; is-upright = ef; is-level = eg; is-plan = n .is-plan ∙ ap (λ x. planOf j x (n .ys)) qf ∙ ap (λ y. planOf j (at f) y) qg; small = n .small; draws = n .draws }
+      record {
+        xs = f;
+        ys = g;
+        is-upright = ef;
+        is-level = eg;
+        is-plan = n .is-plan ∙ ap (λ x. planOf j x (n .ys)) qf ∙ ap (λ y. planOf j (at f) y) qg;
+        small = n .small;
+        draws = n .draws;
+      }
 
 -- A JOB THAT THE RULES ACCEPT: read past tests 1 and 2, past tests 3 to 6, numbered and tested
 pub record Accepted (bs : List ℕ) (j : Job) (p : Plan) : Type 0 where
@@ -105,7 +114,8 @@ drawn-answers j = go (jobNumbers upright j) (jobNumbers level j)
     go none none = unfold planned in (omega arith, omega arith)
     go none (some g) = unfold planned in (omega arith, omega arith)
     go (some f) none = unfold planned in (omega arith, omega arith)
-    go (some f) (some g) = unfold planned tested in past-answers 7 9 (test8 (planOf j (at f) (at g))) 8 _ (omega arith) (omega arith) (past-answers 7 9 (drawable j (planOf j (at f) (at g))) 9 _ (omega arith) (omega arith) tt)
+    go (some f) (some g) = unfold planned tested in past-answers 7 9 (test8 (planOf j (at f) (at g))) 8 _ (omega arith) (omega arith)
+        (past-answers 7 9 (drawable j (planOf j (at f) (at g))) 9 _ (omega arith) (omega arith) tt)
 
 -- what fails in reading fails by 1 or 2
 abbrev Fails : Reading → Type 0
@@ -148,7 +158,8 @@ unfolding turn
 turn-answers j u v = past-answers 7 12 _ 11 _ (omega arith) (omega arith) (go _ u v _)
   where
     at-answers : (a b k : ℕ) → Answers 7 12 (turnAt j a b k)
-    at-answers a b k = unfold turnAt in past-answers 7 12 _ 12 _ (omega arith) (omega arith) (wider 7 12 7 9 (drawn (turned j a b k)) (omega arith) (omega arith) (drawn-answers (turned j a b k)))
+    at-answers a b k = unfold turnAt in past-answers 7 12 _ 12 _ (omega arith) (omega arith) (wider 7 12 7 9 (drawn (turned j a b k)) (omega arith)
+        (omega arith) (drawn-answers (turned j a b k)))
 
     go : (c : Bool) (u v k : ℕ) → Answers 7 12 (turnFrom c j u v k)
     go true u v k = unfold turnFrom in at-answers u v k

@@ -1,24 +1,22 @@
 -- What a board holds after any calls: a job past tests 2 to 6, drawn. And what one call does to the board and to the lent buffer. Assumes nothing.
-use Prim.Native.Nat.{ℕ, _+_, _≤_, _<_}
+use Prim.Native.Nat.{ℕ, _<_}
 use mathlib.Core.Path.{_≡_, refl, sym, ap, _∙_, subst}
-use mathlib.Core.Bool.{Bool, true, false, _&&_}
+use mathlib.Core.Bool.{Bool, true, false}
 use mathlib.Core.List.{List, [], _∷_}
-use lib.ListN.{length, take, drop, length-append, length-drop}
-use lib.Seq.{take-at, drop-at}
-use lib.Dec.{leb}
+use lib.ListN.{length}
 use native.Mathlib.Omega.{arith}
 use borrow.Author.Tests.{leb-true}
 use Rattle.floor.specs.Lists.Laws.{and-parts}
-use Rattle.floor.specs.Jobs.{Job, test2, test3, test4, test5, test6, Reading, fails, reads, readJob, writeJob, pairsIn}
+use Rattle.floor.specs.Jobs.{Job, test2, test3, test4, test5, test6, Reading, fails, reads, readJob, writeJob}
 use Rattle.floor.specs.Jobs.Facts.{Passes, passes-of, of-passes}
-use Rattle.floor.specs.Jobs.Written.{read-test2, read-write-job}
-use Rattle.floor.specs.Plans.{Plan, Answer, refused, held, past, drawn, writePlan}
+use Rattle.floor.specs.Jobs.Written.{read-test2}
+use Rattle.floor.specs.Plans.{Plan, Answer, refused, held, writePlan}
 use Rattle.floor.specs.Plans.Held.{not-held, past-true, past-held, Drawn, drawn-held, drawn-again, held-good}
 use Rattle.floor.specs.Floor.{GoodPlan}
 use Rattle.floor.specs.Turns.{turned, turn}
-use Rattle.floor.specs.Turns.Restore.{Asked, asked, Kept, turned-keeps, turned-restores}
-use Rattle.floor.specs.Calls.{loadRead, load, Board, empty, holding, Call, loads, turns, rectangle, shares, writesJob, writesPlan, Reply, refusal, done, wrote, Step}
-use Rattle.floor.specs.Calls.{lent, refuse, after, asks, writes, step, run}
+use Rattle.floor.specs.Turns.Restore.{Asked, asked, Kept, turned-keeps}
+use Rattle.floor.specs.Calls.{loadRead, load, Board, empty, holding, Call, loads, turns, rectangle, shares, writesJob, writesPlan, Reply, refuse, after}
+use Rattle.floor.specs.Calls.{asks, writes, step, run}
 
 -- WHAT IS HELD: a job past tests 2 to 6, and its own drawing
 pub record Sound (j : Job) (p : Plan) : Type 0 where
@@ -72,7 +70,8 @@ pub turn-held : (j : Job) (p : Plan) (u v : ℕ) (i : Job) (q : Plan) → Sound 
 unfolding test3
 turn-held j p u v i q s h =
     let k : Asked j u v (held i q) = asked j u v i q (s .passes) h in
-    let w : Kept j (turned j (k .a) (k .b) (k .m)) = turned-keeps j (s .passes) p (sound-good j p s) (k .a) (k .b) (k .m) (k .room-a) (k .room-b) (k .contact) (k .many-a) (k .many-b) in
+    let w : Kept j (turned j (k .a) (k .b) (k .m)) = turned-keeps j (s .passes) p (sound-good j p s) (k .a) (k .b) (k .m) (k .room-a) (k .room-b)
+    (k .contact) (k .many-a) (k .many-b) in
     let (e, d) = drawn-held (turned j (k .a) (k .b) (k .m)) i q (k .is) in
     rw e (record { pass2 = rw (w .rooms) (s .pass2); pass3 = rw (w .pairs) (s .pass3); passes = w .passes; is-drawn = d })
 

@@ -1,5 +1,5 @@
 -- A field written is read back, and a field read is written back. Assumes nothing.
-use Prim.Native.Nat.{ℕ, zero, suc, _+_, _*_, _/_, _%_, _≤_, _<_}
+use Prim.Native.Nat.{ℕ, _+_, _*_, _/_, _%_, _<_}
 use mathlib.Core.Path.{_≡_, refl, sym, ap, _∙_}
 use mathlib.Core.Bool.{Bool, true, false, cond}
 use mathlib.Core.List.{List, [], _∷_, _++_}
@@ -8,7 +8,7 @@ use lib.Seq.{take-at, drop-at, length-take-le}
 use lib.Dec.{leb}
 use native.Mathlib.Omega.{arith}
 use borrow.Author.Tests.{leb-true, le-leb}
-use Rattle.floor.specs.Fields.{Bytes, Field, broken, field, readField, writeField}
+use Rattle.floor.specs.Fields.{Bytes, broken, field, readField, writeField}
 
 pub bytes-append : (a b : List ℕ) → Bytes a → Bytes b → Bytes (a ++ b)
 bytes-append [] b p q = q
@@ -36,7 +36,8 @@ whole-field (a ∷ []) t v rest e = not-broken t v rest e
 whole-field (a ∷ h ∷ []) t v rest e = not-broken t v rest e
 whole-field (a ∷ h ∷ l ∷ more) t v rest e = go (leb (256 * h + l) (length more)) refl e
   where
-    go : (b : Bool) → leb (256 * h + l) (length more) ≡ b → cond b (field a (take (256 * h + l) more) (drop (256 * h + l) more)) broken ≡ field t v rest → Whole (a ∷ h ∷ l ∷ more) t v rest
+    go : (b : Bool) → leb (256 * h + l) (length more) ≡ b → cond b (field a (take (256 * h + l) more) (drop (256 * h + l) more)) broken ≡ field t v rest
+        → Whole (a ∷ h ∷ l ∷ more) t v rest
     go false q e = not-broken t v rest e
     go true q e =
         let ta : a ≡ t = cc in

@@ -1,10 +1,11 @@
 -- W8: a good plan shows that neighbours in a star are joined; then every placement that meets the contacts is good. Assumes nothing.
-use mathlib.Core.Path.{_≡_, refl, sym, ap, _∙_, subst}
+use mathlib.Core.Path.{_≡_}
 use mathlib.Core.Logic.{_⊎_, inl, inr}
-use mathlib.Core.List.{List, [], _∷_, List·Memᴰ, List·Memᴰ·head, List·Memᴰ·tail}
-use Prim.Native.Nat.{ℕ, zero, suc, _+_, _-_, _≤_, _<_, min}
+use mathlib.Core.List.{List·Memᴰ}
+use Prim.Native.Nat.{ℕ, _+_, _<_}
 use native.Mathlib.Omega.{arith}
-use Rattle.floor.specs.Floor.Sides.{Side, up, left, down, right, next, opp, prev, round, Piece, side, room, Place, size, Stars, Known, Named, Lawful, Meets, AtFirst, AtLast, Linked, Rounds, Local, Good, Tri, Fits, Contact}
+use Rattle.floor.specs.Floor.Sides.{Side, next, opp, prev, round, Piece, room, Place, size, Stars, Known, Lawful, Meets, Rounds, Local, Good, Tri, Fits}
+use Rattle.floor.specs.Floor.Sides.{Contact}
 use Rattle.floor.specs.Floor.Tiles.{named-known, linked-map, last-map, first-map}
 use Rattle.floor.specs.Floor.Cover.{size-opp}
 use Rattle.floor.specs.Floor.Parts.{good-local}
@@ -26,7 +27,8 @@ module _ (s : Stars) (g : Lawful s) where
       l : Local s p
       l = good-local s p g q
 
-      link : (k : Side) (i : ℕ) → i < s .count → (a b : Piece) → List·Memᴰ a (s .list k i) → List·Memᴰ b (s .list k i) → p .at (next k) a + p .at (prev k) b ≡ size p (next k) → Contact s (next k) a b
+      link : (k : Side) (i : ℕ) → i < s .count → (a b : Piece) → List·Memᴰ a (s .list k i) → List·Memᴰ b (s .list k i)
+          → p .at (next k) a + p .at (prev k) b ≡ size p (next k) → Contact s (next k) a b
       link k i h a b ma mb e =
           let ha : Known s a = known k i a h ma in
           let hb : Known s b = known k i b h mb in
@@ -39,7 +41,8 @@ module _ (s : Stars) (g : Lawful s) where
             behind = rw (round k) (omega (arith, na .touch, nb .touch, l .thick k a ha, size-opp p k));
           })
 
-      round-corner : (k : Side) (i : ℕ) → i < s .count → (a b : Piece) → List·Memᴰ a (s .list k i) → List·Memᴰ b (s .list (next k) i) → Rounds p k (room i) a b → Contact s (next k) a b ⊎ Contact s (opp k) a b
+      round-corner : (k : Side) (i : ℕ) → i < s .count → (a b : Piece) → List·Memᴰ a (s .list k i) → List·Memᴰ b (s .list (next k) i)
+          → Rounds p k (room i) a b → Contact s (next k) a b ⊎ Contact s (opp k) a b
       round-corner k i h a b ma mb t = go t
         where
           ha : Known s a
@@ -87,16 +90,23 @@ module _ (s : Stars) (g : Lawful s) where
     base-one = t .base-one;
   }
     where
-      go : (k : Side) (i : ℕ) → i < s .count → (a b : Piece) → List·Memᴰ a (s .list k i) → List·Memᴰ b (s .list (next k) i) → Contact s (next k) a b ⊎ Contact s (opp k) a b → Rounds p k (room i) a b
+      go : (k : Side) (i : ℕ) → i < s .count → (a b : Piece) → List·Memᴰ a (s .list k i) → List·Memᴰ b (s .list (next k) i)
+          → Contact s (next k) a b ⊎ Contact s (opp k) a b → Rounds p k (room i) a b
       go k i h a b ma mb (inl e) =
           let m : Meets p (next k) a b = f .meets (next k) a b (known k i a h ma) (known (next k) i b h mb) e in
           let over : size p (opp k) < p .at (opp k) a + p .at k b = rw (round k) at (m .ahead) in
-          inl (omega (arith, m .touch, f .meets (next k) (room i) b h (known (next k) i b h mb) mb .touch), omega (arith, f .meets k (room i) a h (known k i a h ma) ma .touch, size-opp p k))
+          inl (
+            omega (arith, m .touch, f .meets (next k) (room i) b h (known (next k) i b h mb) mb .touch),
+            omega (arith, f .meets k (room i) a h (known k i a h ma) ma .touch, size-opp p k),
+          )
       go k i h a b ma mb (inr e) =
           let m : Meets p (opp k) a b = f .meets (opp k) a b (known k i a h ma) (known (next k) i b h mb) e in
           let flush : p .at (opp k) a + p .at k b ≡ size p (opp k) = rw (round k) at (m .touch) in
           let over : size p (prev k) < p .at (next k) a + p .at (prev k) b = rw (round k) at (m .behind) in
-          inr (omega (arith, f .meets (next k) (room i) b h (known (next k) i b h mb) mb .touch, size-opp p (next k)), omega (arith, f .meets k (room i) a h (known k i a h ma) ma .touch, size-opp p k))
+          inr (
+            omega (arith, f .meets (next k) (room i) b h (known (next k) i b h mb) mb .touch, size-opp p (next k)),
+            omega (arith, f .meets k (room i) a h (known k i a h ma) ma .touch, size-opp p k),
+          )
 
   -- W8: where one plan is good, so is every placement that meets the contacts
   pub good-again : (p r : Place) → Good s p → Fits s r → Good s r

@@ -1,12 +1,12 @@
 -- Cells counted: the areas add up to the sheet exactly where every cell lies in one rectangle, no cell lying in two. Assumes nothing.
-use mathlib.Core.Path.{_≡_, refl, sym, ap, _∙_, subst, fun-ext}
+use mathlib.Core.Path.{_≡_, refl, sym, ap, _∙_}
 use mathlib.Core.Bool.{Bool, true, false, cond, _&&_}
 use mathlib.Core.List.{List, [], _∷_, map}
 use Prim.Native.Nat.{ℕ, zero, suc, _+_, _-_, _*_, _≤_, _<_, min}
-use native.Mathlib.Nat.{mul-zero, zero-mul, suc-mul, add-mul, mul-comm, mul-one, one-mul}
+use native.Mathlib.Nat.{mul-zero, zero-mul, suc-mul, add-mul, mul-comm, mul-one}
 use native.Mathlib.Omega.{arith}
 use native.Mathlib.Decide.{decLe, decLt, ℕ-discrete}
-use lib.Dec.{leb, ltb, eqb}
+use lib.Dec.{leb, ltb}
 use lib.ListN.{length, getD}
 use borrow.Author.Tests.{le-leb, lt-leb, lt-ltb, le-ltb}
 use Rattle.floor.specs.Lists.{sum}
@@ -117,7 +117,9 @@ total-le (suc n) c f h = omega (arith, total-le n c f (λ i l. h i (omega arith)
 total-full : (n c : ℕ) (f : ℕ → ℕ) → ((i : ℕ) → i < n → f i ≤ c) → total n f ≡ n * c → (i : ℕ) → i < n → f i ≡ c
 unfolding total
 total-full zero c f h e i l = absurd (omega arith)
-total-full (suc n) c f h e i l = go (ℕ-discrete i n) (total-full n c f (λ i l. h i (omega arith)) (omega (arith, total-le n c f (λ i l. h i (omega arith)), h n (omega arith), suc-mul n c)) i)
+total-full (suc n) c f h e i l =
+    go (ℕ-discrete i n) (total-full n c f (λ i l. h i (omega arith))
+    (omega (arith, total-le n c f (λ i l. h i (omega arith)), h n (omega arith), suc-mul n c)) i)
   where
     go : Dec (i ≡ n) → (i < n → f i ≡ c) → f i ≡ c
     go (yes w) below = omega (arith, ap f w, total-le n c f (λ i l. h i (omega arith)), h n (omega arith), suc-mul n c)
@@ -227,9 +229,11 @@ module _ (n : ℕ) (p : Plan) (many : length (p .rects) ≡ n) (inside : (v : �
       total-same n (λ v. area (rectOf p v)) (λ v. total (p .width) (λ x. total (p .height) (λ y. holds (rectOf p v) x y)))
       (λ v l.
       let i : Inside p (rectOf p v) = inside v l in
-      sym (count (p .width) (p .height) (rectOf p v .x1) (rectOf p v .x2) (rectOf p v .y1) (rectOf p v .y2) (omega (arith, i .wide)) (i .in-width) (omega (arith, i .tall)) (i .in-height)))
+      sym (count (p .width) (p .height) (rectOf p v .x1) (rectOf p v .x2) (rectOf p v .y1) (rectOf p v .y2) (omega (arith, i .wide)) (i .in-width)
+      (omega (arith, i .tall)) (i .in-height)))
       ∙ total-swap n (p .width) (λ v x. total (p .height) (λ y. holds (rectOf p v) x y))
-      ∙ total-same (p .width) (λ x. total n (λ v. total (p .height) (λ y. holds (rectOf p v) x y))) (λ x. total (p .height) (λ y. total n (λ v. holds (rectOf p v) x y)))
+      ∙ total-same (p .width) (λ x. total n (λ v. total (p .height) (λ y. holds (rectOf p v) x y)))
+      (λ x. total (p .height) (λ y. total n (λ v. holds (rectOf p v) x y)))
       (λ x hx. total-swap n (p .height) (λ v y. holds (rectOf p v) x y))
 
   summed : sum (map area (p .rects)) ≡ total n (λ v. area (rectOf p v))
@@ -243,7 +247,8 @@ module _ (n : ℕ) (p : Plan) (many : length (p .rects) ≡ n) (inside : (v : �
       summed
       ∙ counted
       ∙ total-same (p .width) (λ x. total (p .height) (λ y. total n (λ v. holds (rectOf p v) x y))) (λ x. p .height)
-      (λ x hx. total-same (p .height) (λ y. total n (λ v. holds (rectOf p v) x y)) (λ y. 1) (λ y hy. single x y hx hy) ∙ total-const (p .height) 1 ∙ mul-one (p .height))
+      (λ x hx. total-same (p .height) (λ y. total n (λ v. holds (rectOf p v) x y)) (λ y. 1) (λ y hy. single x y hx hy) ∙ total-const
+      (p .height) 1 ∙ mul-one (p .height))
       ∙ total-const (p .width) (p .height)
     where
       single : (x y : ℕ) → x < p .width → y < p .height → total n (λ v. holds (rectOf p v) x y) ≡ 1
@@ -258,13 +263,15 @@ module _ (n : ℕ) (p : Plan) (many : length (p .rects) ≡ n) (inside : (v : �
     where
       most : (x y : ℕ) → total n (λ v. holds (rectOf p v) x y) ≤ 1
       most x y =
-          total-few n (λ v. holds (rectOf p v) x y) (λ i l. holds-few (rectOf p i) x y) (λ i k l m a b. once x y i k l m (holds-cell (rectOf p i) x y a) (holds-cell (rectOf p k) x y b))
+          total-few n (λ v. holds (rectOf p v) x y) (λ i l. holds-few (rectOf p i) x y) (λ i k l m a b. once x y i k l m (holds-cell (rectOf p i) x y a)
+          (holds-cell (rectOf p k) x y b))
 
       row : (x : ℕ) → total (p .height) (λ y. total n (λ v. holds (rectOf p v) x y)) ≤ p .height
       row x = omega (arith, total-le (p .height) 1 (λ y. total n (λ v. holds (rectOf p v) x y)) (λ y l. most x y), mul-one (p .height))
 
       full : total (p .height) (λ y. total n (λ v. holds (rectOf p v) x y)) ≡ p .height
-      full = total-full (p .width) (p .height) (λ x. total (p .height) (λ y. total n (λ v. holds (rectOf p v) x y))) (λ x l. row x) (sym counted ∙ sym summed ∙ e) x hx
+      full = total-full (p .width) (p .height) (λ x. total (p .height) (λ y. total n (λ v. holds (rectOf p v) x y))) (λ x l. row x)
+          (sym counted ∙ sym summed ∙ e) x hx
 
       single : total n (λ v. holds (rectOf p v) x y) ≡ 1
       single = total-full (p .height) 1 (λ y. total n (λ v. holds (rectOf p v) x y)) (λ y l. most x y) (full ∙ sym (mul-one (p .height))) y hy

@@ -1,23 +1,25 @@
 -- A good plan in the customer's words and a good placement in the theory's are one. Assumes nothing.
-use mathlib.Core.Path.{_≡_, refl, sym, ap, _∙_}
-use mathlib.Core.Logic.{_⊎_, inl, inr, _↔_}
+use mathlib.Core.Path.{_≡_, sym, ap, _∙_}
 use mathlib.Core.List.{[], _∷_, List·Memᴰ, List·Memᴰ·head, List·Memᴰ·tail}
-use Prim.Native.Nat.{ℕ, zero, suc, _+_, _-_, _≤_, _<_}
+use Prim.Native.Nat.{ℕ, _+_, _-_, _≤_, _<_}
 use native.Mathlib.Omega.{arith}
 use lib.ListN.{length, getD}
-use Rattle.floor.specs.Jobs.{Entry, Star, Job, Vertex, Room, starOf, listOf}
+use Rattle.floor.specs.Jobs.{Entry, Star, Job, Vertex, Room, starOf}
 use Rattle.floor.specs.Jobs.Stars.{Sorted, AtLeast}
-use Rattle.floor.specs.Jobs.Facts.{Passes, star-at, star-room, star-frame}
+use Rattle.floor.specs.Jobs.Facts.{Passes, star-at, star-room}
 use Rattle.floor.specs.Plans.{Plan, rectOf}
-use Rattle.floor.specs.Floor.{Cell, Point, Stands, Shares, Onward, Joined, Earlier, here, there, Different}
-use Rattle.floor.specs.Floor.{ExactlyOne, Complete, Floor, Framed, Inside, GoodPlan}
-use Rattle.floor.specs.Floor.Sides.{Side, up, left, down, right, next, opp, prev, round, around as each-side, Piece, side, room, Place, size, Known, Meets, Contact, Shape, Good}
-use Rattle.floor.specs.Floor.Whole.{flip, frame-meets, frame-joined, strict}
+use Rattle.floor.specs.Floor.{Cell, Point, Stands, Shares, Onward, Joined, Earlier, here, there, Different, ExactlyOne, Complete, Floor, Framed, Inside}
+use Rattle.floor.specs.Floor.{GoodPlan}
+use Rattle.floor.specs.Floor.Sides.{Side, up, left, down, right, opp, round, around as each-side, Piece, side, room, size, Known, Meets, Contact, Shape}
+use Rattle.floor.specs.Floor.Sides.{Good}
+use Rattle.floor.specs.Floor.Whole.{flip, frame-meets, strict}
 use Rattle.floor.specs.Floor.Parts.{gap-of, good-local}
-use Rattle.floor.specs.Floor.Four.{Knot, On, NoFour, turn-knot, turn-on, four-corner, corner-four}
-use Rattle.floor.specs.Floor.Read.{num, number, piece, number-piece, piece-number, number-same, piece-same, few-sides, kind-side, starsOf, mem-entry, entry-mem, known-vertex, known-piece, entry-ok, lawful}
+use Rattle.floor.specs.Floor.Four.{NoFour, turn-knot, turn-on, four-corner, corner-four}
+use Rattle.floor.specs.Floor.Read.{num, number, piece, number-piece, number-same, piece-same, few-sides, kind-side, starsOf, mem-entry, entry-mem}
+use Rattle.floor.specs.Floor.Read.{known-vertex, known-piece, entry-ok, lawful}
 use Rattle.floor.specs.Floor.Joins.{joined-contact, contact-joined, side-of}
-use Rattle.floor.specs.Floor.Placed.{reach, placeOf, tile-at, knot-at, framed-shape, inside-place, thick-place, stands-meets, meets-stands, in-cell, cell-at, point-at, on-point, cover-place, alone-place, order-lists, lists-order, Strict}
+use Rattle.floor.specs.Floor.Placed.{reach, placeOf, tile-at, knot-at, framed-shape, inside-place, thick-place, stands-meets, meets-stands, in-cell}
+use Rattle.floor.specs.Floor.Placed.{cell-at, point-at, on-point, cover-place, alone-place, order-lists, lists-order}
 
 module _ (j : Job) (ok : Passes j) (p : Plan) where
   -- who meets is two
@@ -44,7 +46,8 @@ module _ (j : Job) (ok : Passes j) (p : Plan) where
 
     once : (x y u v : ℕ) → Vertex j u → Vertex j v → Cell (rectOf p u) x y → Cell (rectOf p v) x y → u ≡ v
     once x y u v hu hv c d =
-        let o : ExactlyOne j p x y = f .cover x y (omega (arith, c .right, gp .inside u hu .in-width)) (omega (arith, c .upper, gp .inside u hu .in-height)) in
+        let o : ExactlyOne j p x y = f .cover x y (omega (arith, c .right, gp .inside u hu .in-width))
+        (omega (arith, c .upper, gp .inside u hu .in-height)) in
         o .only u hu c ∙ sym (o .only v hv d)
 
     no-four : (k : Side) → NoFour (starsOf j) (placeOf p) k
@@ -52,7 +55,8 @@ module _ (j : Job) (ok : Passes j) (p : Plan) where
         each-side (λ k. NoFour (starsOf j) (placeOf p) k)
         (λ k below x t u v w ht hu hv hw nt nu nv nw. below (turn-knot x) t u v w ht hu hv hw (turn-on x nt) (turn-on x nu) (turn-on x nv) (turn-on x nw))
         (λ x t u v w ht hu hv hw nt nu nv nw tu tv tw uv uw vw.
-        f .no-four (x .c) (x .d) (number t) (number u) (number v) (number w) (known-vertex j t ht) (known-vertex j u hu) (known-vertex j v hv) (known-vertex j w hw)
+        f .no-four (x .c) (x .d) (number t) (number u) (number v) (number w) (known-vertex j t ht) (known-vertex j u hu) (known-vertex j v hv)
+        (known-vertex j w hw)
         (record {
           ab = λ e. tu (number-same t u e);
           ac = λ e. tv (number-same t v e);
@@ -61,7 +65,8 @@ module _ (j : Job) (ok : Passes j) (p : Plan) where
           bd = λ e. uw (number-same u w e);
           cd = λ e. vw (number-same v w e);
         })
-        (on-point j p (gp .inside) x t nt ht) (on-point j p (gp .inside) x u nu hu) (on-point j p (gp .inside) x v nv hv) (on-point j p (gp .inside) x w nw hw))
+        (on-point j p (gp .inside) x t nt ht) (on-point j p (gp .inside) x u nu hu) (on-point j p (gp .inside) x v nv hv)
+        (on-point j p (gp .inside) x w nw hw))
 
     -- who meets is joined, and so in contact on some side
     some : (k : Side) (u v : Piece) → Known (starsOf j) u → Known (starsOf j) v → Meets (placeOf p) k u v → (c : Side) × Contact (starsOf j) c u v
@@ -83,7 +88,8 @@ module _ (j : Job) (ok : Passes j) (p : Plan) where
         let (e, me, ke, te) = mem-entry v (getD j i []) (num k) m in
         stands-meets j p (gp .inside) k (room i) v h hv (go e ke te (f .stands (4 + i) (omega arith, omega arith) e (rw (star-at j i) me)))
       where
-        go : (e : Entry) → e .kind ≡ num k → e .to ≡ number v → Stands (e .kind) (rectOf p (4 + i)) (rectOf p (e .to)) → Stands (num k) (rectOf p (4 + i)) (rectOf p (number v))
+        go : (e : Entry) → e .kind ≡ num k → e .to ≡ number v → Stands (e .kind) (rectOf p (4 + i)) (rectOf p (e .to))
+            → Stands (num k) (rectOf p (4 + i)) (rectOf p (number v))
         go e ke te s = rw (ke, te) at s
 
     meets : (k : Side) (u v : Piece) → Known (starsOf j) u → Known (starsOf j) v → Contact (starsOf j) k u v → Meets (placeOf p) k u v
@@ -104,8 +110,8 @@ module _ (j : Job) (ok : Passes j) (p : Plan) where
       joined = λ k u v hu hv m. side-of (starsOf j) (placeOf p) thick meets k u v hu hv (some k u v hu hv m) m;
       meets = meets;
       order = λ k i h.
-        order-lists j p (gp .inside) k (getD j i []) (λ e m. entry-ok j ok i h e m .below)
-        (λ d e x. f .order (4 + i) (omega arith, omega arith) d e (rw (star-at j i) x));
+          order-lists j p (gp .inside) k (getD j i []) (λ e m. entry-ok j ok i h e m .below)
+          (λ d e x. f .order (4 + i) (omega arith, omega arith) d e (rw (star-at j i) x));
     }
 
   -- GOOD IS THE CUSTOMER'S GOOD PLAN
@@ -149,7 +155,8 @@ module _ (j : Job) (ok : Passes j) (p : Plan) where
           one = number v;
           vertex = known-vertex j v h;
           holds = in-cell j p ins (tile-at p x y hx hy) v n;
-          only = λ w hw m. sym (number-piece w) ∙ ap number (g .alone left (tile-at p x y hx hy) (piece w) v (known-piece j w hw) h (cell-at j p ins x y w hw hx hy m) n);
+          only = λ w hw m. sym (number-piece w) ∙ ap number (g .alone left (tile-at p x y hx hy) (piece w) v (known-piece j w hw) h
+              (cell-at j p ins x y w hw hx hy m) n);
         }
 
     none-four : (x y t u v w : ℕ) → Vertex j t → Vertex j u → Vertex j v → Vertex j w → Different t u v w
@@ -157,7 +164,8 @@ module _ (j : Job) (ok : Passes j) (p : Plan) where
     none-four x y t u v w ht hu hv hw d nt nu nv nw =
         let hx : x ≤ p .width = omega (arith, nt .right, ins t ht .in-width) in
         let hy : y ≤ p .height = omega (arith, nt .upper, ins t ht .in-height) in
-        corner-four (starsOf j) (placeOf p) (g .inside) (g .thick) (g .alone) left (g .corner left) (knot-at p x y hx hy) (piece t) (piece u) (piece v) (piece w)
+        corner-four (starsOf j) (placeOf p) (g .inside) (g .thick) (g .alone) left (g .corner left) (knot-at p x y hx hy) (piece t) (piece u) (piece v)
+        (piece w)
         (known-piece j t ht) (known-piece j u hu) (known-piece j v hv) (known-piece j w hw)
         (point-at j p ins x y t hx hy nt) (point-at j p ins x y u hx hy nu) (point-at j p ins x y v hx hy nv) (point-at j p ins x y w hx hy nw)
         (λ e. d .ab (piece-same t u e)) (λ e. d .ac (piece-same t v e)) (λ e. d .ad (piece-same t w e))
@@ -173,12 +181,14 @@ module _ (j : Job) (ok : Passes j) (p : Plan) where
         (stands-meets j p ins k (piece u) (piece v) (known-piece j u hu) (known-piece j v hv) (rw (e, number-piece u, number-piece v) (s .stands)))))
 
     joined-shares : (u v : ℕ) → Vertex j u → Vertex j v → Joined j u v → Shares (rectOf p u) (rectOf p v)
-    joined-shares u v hu hv n = let (k, m) = joined-contact j ok (piece u) (piece v) (known-piece j u hu) (known-piece j v hv) (rw (number-piece u, number-piece v) n) in go k m
+    joined-shares u v hu hv n = let (k, m) = joined-contact j ok (piece u) (piece v) (known-piece j u hu) (known-piece j v hv)
+        (rw (number-piece u, number-piece v) n) in go k m
       where
         go : (k : Side) → Contact (starsOf j) k (piece u) (piece v) → Shares (rectOf p u) (rectOf p v)
         go k m =
             let s : Stands (num k) (rectOf p (number (piece u))) (rectOf p (number (piece v))) =
-              meets-stands j p ins k (piece u) (piece v) (known-piece j u hu) (known-piece j v hv) (g .meets k (piece u) (piece v) (known-piece j u hu) (known-piece j v hv) m) in
+            meets-stands j p ins k (piece u) (piece v) (known-piece j u hu) (known-piece j v hv) (g .meets k (piece u) (piece v) (known-piece j u hu)
+            (known-piece j v hv) m) in
             record { side = num k; few = few-sides k; stands = rw (number-piece u, number-piece v) at s }
 
     -- each entry on the side of its kind
@@ -188,7 +198,8 @@ module _ (j : Job) (ok : Passes j) (p : Plan) where
         let (k, q) = kind-side (e .kind) (omega (arith, entry-ok j ok i h e m .small)) in
         let hv : Known (starsOf j) (piece (e .to)) = known-piece j (e .to) (entry-ok j ok i h e m .below) in
         rw (number-piece (e .to), q) at
-        (meets-stands j p ins k (room i) (piece (e .to)) h hv (g .meets k (room i) (piece (e .to)) h hv (entry-mem (getD j i []) (num k) e m (sym {a = num k} q))))
+        (meets-stands j p ins k (room i) (piece (e .to)) h hv
+        (g .meets k (room i) (piece (e .to)) h hv (entry-mem (getD j i []) (num k) e m (sym {a = num k} q))))
 
     -- kinds never fall
     rising : (s : Star) → Sorted s → (d e : Entry) → Earlier d e s → d .kind ≤ e .kind
@@ -218,8 +229,9 @@ module _ (j : Job) (ok : Passes j) (p : Plan) where
         stands = λ u r. at-place u r (λ u s. (e : Entry) → List·Memᴰ e s → Stands (e .kind) (rectOf p u) (rectOf p (e .to))) entry-stands;
         sides = λ u r. rising (starOf j u) (ok .good u r .sorted);
         order = λ u r.
-          at-place u r (λ u s. (d e : Entry) → Earlier d e s → d .kind ≡ e .kind → Onward (d .kind) (rectOf p (d .to)) (rectOf p (e .to)))
-          (λ i h.
-          lists-order p (getD j i []) (λ e m. omega (arith, entry-ok j ok i h e m .small)) (λ k. strict (starsOf j) (placeOf p) (lawful j ok) (good-local (starsOf j) (placeOf p) (lawful j ok) g) k i h));
+            at-place u r (λ u s. (d e : Entry) → Earlier d e s → d .kind ≡ e .kind → Onward (d .kind) (rectOf p (d .to)) (rectOf p (e .to)))
+            (λ i h.
+            lists-order p (getD j i []) (λ e m. omega (arith, entry-ok j ok i h e m .small)) (λ k. strict (starsOf j) (placeOf p) (lawful j ok)
+            (good-local (starsOf j) (placeOf p) (lawful j ok) g) k i h));
       };
     }

@@ -1,11 +1,12 @@
 -- In a local plan every cell lies in exactly one vertex. Assumes nothing.
-use mathlib.Core.Path.{_≡_, refl, sym, ap, _∙_, subst}
+use mathlib.Core.Path.{_≡_, refl, ap}
 use mathlib.Core.Logic.{_⊎_, inl, inr}
-use mathlib.Core.List.{List, [], _∷_, List·Memᴰ, List·Memᴰ·head, List·Memᴰ·tail}
+use mathlib.Core.List.{List·Memᴰ}
 use Prim.Native.Nat.{ℕ, zero, suc, _+_, _-_, _≤_, _<_}
 use native.Mathlib.Omega.{arith}
 use native.Mathlib.Decide.{decLe, decLt}
-use Rattle.floor.specs.Floor.Sides.{Side, up, left, down, right, next, opp, prev, round, around, Piece, side, room, Place, size, Stars, Known, Named, Lawful, Meets, Tile, In, AtFirst, AtLast, Linked, Rounds, Local, Base, Shape}
+use Rattle.floor.specs.Floor.Sides.{Side, up, left, down, right, next, opp, prev, round, around, Piece, side, room, Place, size, Stars, Known, Named}
+use Rattle.floor.specs.Floor.Sides.{Lawful, Tile, In, Local, Shape}
 use Rattle.floor.specs.Floor.Tiles.{beside, one-entry}
 
 pub size-opp : (p : Place) (k : Side) → size p (opp k) ≡ size p k
@@ -36,7 +37,8 @@ module _ (s : Stars) (p : Place) (g : Lawful s) (l : Local s p) where
   Over : (k : Side) → Tile p k → ℕ → Type 0
   Over k y i = ((j : ℕ) × (j < s .count) × List·Memᴰ (room j) (s .list k i) × In p k y (room j)) ⊎ (List·Memᴰ (side k) (s .list k i) × In p k y (side k))
 
-  over : (k : Side) (i : ℕ) → i < s .count → (y : Tile p k) → y .a ≡ p .at k (room i) → y .b < p .at (next k) (room i) → y .d < p .at (prev k) (room i) → Over k y i
+  over : (k : Side) (i : ℕ) → i < s .count → (y : Tile p k) → y .a ≡ p .at k (room i) → y .b < p .at (next k) (room i) → y .d < p .at (prev k) (room i)
+      → Over k y i
   unfolding Over
   over k i h y e hb hd = let (v, m, n) = beside s p g l k i h y e hb hd in go v m n (g .known k i v h m)
     where
@@ -63,15 +65,24 @@ module _ (s : Stars) (p : Place) (g : Lawful s) (l : Local s p) where
       -- t covers both cells, r only x: what lies over r is t, and reaches too far
       one : (t r : ℕ) → t < s .count → r < s .count → In p k x (room t) → In p k x (room r) → y .a < p .at k (room t) → Over k y r → ⊥
       one t r ht hr nt nr h (inl (q, hq, m, n)) =
-          omega (arith, ap (λ z. p .at (opp k) (room z)) (below q t hq ht n (to t nt h)), l .meets k r (room q) hr m .touch, nt .inc, nr .ina, mv .ma, mv .mc, x .ac)
+          omega (
+            arith,
+            ap (λ z. p .at (opp k) (room z)) (below q t hq ht n (to t nt h)),
+            l .meets k r (room q) hr m .touch,
+            nt .inc,
+            nr .ina,
+            mv .ma,
+            mv .mc,
+            x .ac,
+          )
       one t r ht hr nt nr h (inr (m, n)) = apart k y t ht n (to t nt h)
 
       two : Over k y i → Over k y j → (i ≡ j) ⊎ (x .c ≡ p .at (opp k) (side k))
       two (inl (q, hq, m, n)) (inl (r, hr, m′, n′)) =
           let e : q ≡ r = below q r hq hr n n′ in
           let f : room i ≡ room j = one-entry s p g l (opp k) q hq (x .d) (x .b) (omega (arith, x .bd, size-opp p (next k)))
-            (room i) (room j) (g .back k i q hi m) (rw (← e) at (g .back k j r hj m′))
-            (ni .ind) (rw (round k) (ni .inb)) (nj .ind) (rw (round k) (nj .inb)) in
+          (room i) (room j) (g .back k i q hi m) (rw (← e) at (g .back k j r hj m′))
+          (ni .ind) (rw (round k) (ni .inb)) (nj .ind) (rw (round k) (nj .inb)) in
           inl (cc)
       two (inl (q, hq, m, n)) (inr (m′, n′)) = absurd (apart k y q hq n′ n)
       two (inr (m, n)) (inl (r, hr, m′, n′)) = absurd (apart k y r hr n n′)
@@ -100,7 +111,8 @@ module _ (s : Stars) (p : Place) (g : Lawful s) (l : Local s p) where
       go (inr (m, n)) = m
 
   -- AT MOST ONE, along W
-  column : (c : ℕ) (x : Tile p down) → x .c ≡ c → x .b ≡ p .at right (side left) → (i j : ℕ) → i < s .count → j < s .count → In p down x (room i) → In p down x (room j) → i ≡ j
+  column : (c : ℕ) (x : Tile p down) → x .c ≡ c → x .b ≡ p .at right (side left) → (i j : ℕ) → i < s .count → j < s .count → In p down x (room i)
+      → In p down x (room j) → i ≡ j
   column zero x e f i j hi hj ni nj = absurd (omega (arith, x .ac, ni .ina, l .within down i hi, frame down, l .shape .s-down))
   column (suc c) x e f i j hi hj ni nj =
       go (step down x y mv (λ i j. column c y refl f i j) i j hi hj ni nj)
@@ -176,10 +188,19 @@ module _ (s : Stars) (p : Place) (g : Lawful s) (l : Local s p) where
       (λ k below x u v hu hv m n. below (turn x) u v hu hv (turn-in x m) (turn-in x n)) alone-left
 
   -- a walk in direction k from a room's cell, inside the frame, stays in rooms
-  walk : (k : Side) (m : ℕ) (x y : Tile p k) → Moved p k m x y → p .at (opp k) (side k) ≤ y .c → (i : ℕ) → i < s .count → In p k x (room i) → (j : ℕ) × (j < s .count) × In p k y (room j)
+  walk : (k : Side) (m : ℕ) (x y : Tile p k) → Moved p k m x y → p .at (opp k) (side k) ≤ y .c → (i : ℕ) → i < s .count → In p k x (room i)
+      → (j : ℕ) × (j < s .count) × In p k y (room j)
   unfolding Over
-  walk k zero x y mv h i hi n =
-      (i, hi, record { ina = omega (arith, n .ina, mv .ma); inb = omega (arith, n .inb, mv .mb); inc = omega (arith, n .inc, mv .mc); ind = omega (arith, n .ind, mv .md) })
+  walk k zero x y mv h i hi n = (
+    i,
+    hi,
+    record {
+      ina = omega (arith, n .ina, mv .ma);
+      inb = omega (arith, n .inb, mv .mb);
+      inc = omega (arith, n .inc, mv .mc);
+      ind = omega (arith, n .ind, mv .md);
+    },
+  )
   walk k (suc m) x y mv h i hi n = on (walk k m x z (record { ma = refl; mb = mv .mb; mc = omega (arith, mv .mc); md = mv .md }) (omega arith) i hi n)
     where
       z : Tile p k
@@ -206,26 +227,85 @@ module _ (s : Stars) (p : Place) (g : Lawful s) (l : Local s p) where
       let ts : p .at down (room i) + p .at up (side down) ≡ p .height = l .meets down i (side down) hi (h .2) .touch in
       let tl : p .width < p .at left (room i) + p .at right (room i) = l .thick left (room i) hi in
       let td : p .height < p .at down (room i) + p .at up (room i) = l .thick down (room i) hi in
-      let corner : Tile p up = record { a = p .at up (side down); b = x .c + (x .a - p .at right (side left)); c = x .d + (x .b - p .at up (side down)); d = p .at right (side left); ac = omega (arith, x .bd); bd = omega (arith, x .ac) } in
-      let edge : Tile p up = record { a = x .b; b = x .c + (x .a - p .at right (side left)); c = x .d; d = p .at right (side left); ac = x .bd; bd = omega (arith, x .ac) } in
+      let corner : Tile p up = record {
+        a = p .at up (side down);
+        b = x .c + (x .a - p .at right (side left));
+        c = x .d + (x .b - p .at up (side down));
+        d = p .at right (side left);
+        ac = omega (arith, x .bd);
+        bd = omega (arith, x .ac);
+      } in
+      let edge : Tile p up = record {
+        a = x .b;
+        b = x .c + (x .a - p .at right (side left));
+        c = x .d;
+        d = p .at right (side left);
+        ac = x .bd;
+        bd = omega (arith, x .ac);
+      } in
       let (j, hj, n) = walk up (x .b - p .at up (side down)) corner edge (record { ma = omega arith; mb = refl; mc = omega arith; md = refl }) hd i hi
-        (record { ina = omega (arith); inb = omega (arith, x .ac); inc = omega (arith, x .bd); ind = omega (arith) }) in
-      let start : Tile p right = record { a = p .at right (side left); b = x .b; c = x .c + (x .a - p .at right (side left)); d = x .d; ac = omega (arith, x .ac); bd = x .bd } in
+      (record { ina = omega (arith); inb = omega (arith, x .ac); inc = omega (arith, x .bd); ind = omega (arith) }) in
+      let start : Tile p right = record {
+        a = p .at right (side left);
+        b = x .b;
+        c = x .c + (x .a - p .at right (side left));
+        d = x .d;
+        ac = omega (arith, x .ac);
+        bd = x .bd;
+      } in
       walk right (x .a - p .at right (side left)) start x (record { ma = omega arith; mb = refl; mc = omega arith; md = refl }) hc j hj
       (record { ina = n .ind; inb = n .ina; inc = n .inb; ind = n .inc })
 
   cover-right : (x : Tile p right) → (v : Piece) × Known s v × In p right x v
-  cover-right x = go (decLe (p .at right (side left)) (x .a)) (decLe (p .at left (side right)) (x .c)) (decLe (p .at up (side down)) (x .b)) (decLe (p .at down (side up)) (x .d))
+  cover-right x = go (decLe (p .at right (side left)) (x .a)) (decLe (p .at left (side right)) (x .c)) (decLe (p .at up (side down)) (x .b))
+      (decLe (p .at down (side up)) (x .d))
     where
       sh : Shape p
       sh = l .shape
 
-      go : Dec (p .at right (side left) ≤ x .a) → Dec (p .at left (side right) ≤ x .c) → Dec (p .at up (side down) ≤ x .b) → Dec (p .at down (side up) ≤ x .d) → (v : Piece) × Known s v × In p right x v
+      go : Dec (p .at right (side left) ≤ x .a) → Dec (p .at left (side right) ≤ x .c) → Dec (p .at up (side down) ≤ x .b)
+          → Dec (p .at down (side up) ≤ x .d) → (v : Piece) × Known s v × In p right x v
       go (yes ha) (yes hc) (yes hb) (yes hd) = let (j, hj, n) = inner x ha hc hb hd in (room j, hj, n)
-      go (no ha) hc hb hd = (side left, tt, record { ina = omega arith; inb = omega (arith, x .bd, sh .w-up); inc = omega (arith, x .ac, sh .w-left); ind = omega (arith, x .bd, sh .w-down) })
-      go (yes ha) (no hc) hb hd = (side right, tt, record { ina = omega (arith, x .ac, sh .e-right); inb = omega (arith, x .bd, sh .e-up); inc = omega arith; ind = omega (arith, x .bd, sh .e-down) })
-      go (yes ha) (yes hc) (no hb) hd = (side down, tt, record { ina = omega (arith, x .ac, sh .s-right); inb = omega arith; inc = omega (arith, x .ac, sh .s-left); ind = omega (arith, x .bd, sh .s-down) })
-      go (yes ha) (yes hc) (yes hb) (no hd) = (side up, tt, record { ina = omega (arith, x .ac, sh .n-right); inb = omega (arith, x .bd, sh .n-up); inc = omega (arith, x .ac, sh .n-left); ind = omega arith })
+      go (no ha) hc hb hd = (
+        side left,
+        tt,
+        record {
+          ina = omega arith;
+          inb = omega (arith, x .bd, sh .w-up);
+          inc = omega (arith, x .ac, sh .w-left);
+          ind = omega (arith, x .bd, sh .w-down);
+        },
+      )
+      go (yes ha) (no hc) hb hd = (
+        side right,
+        tt,
+        record {
+          ina = omega (arith, x .ac, sh .e-right);
+          inb = omega (arith, x .bd, sh .e-up);
+          inc = omega arith;
+          ind = omega (arith, x .bd, sh .e-down);
+        },
+      )
+      go (yes ha) (yes hc) (no hb) hd = (
+        side down,
+        tt,
+        record {
+          ina = omega (arith, x .ac, sh .s-right);
+          inb = omega arith;
+          inc = omega (arith, x .ac, sh .s-left);
+          ind = omega (arith, x .bd, sh .s-down);
+        },
+      )
+      go (yes ha) (yes hc) (yes hb) (no hd) = (
+        side up,
+        tt,
+        record {
+          ina = omega (arith, x .ac, sh .n-right);
+          inb = omega (arith, x .bd, sh .n-up);
+          inc = omega (arith, x .ac, sh .n-left);
+          ind = omega arith;
+        },
+      )
 
   -- AT LEAST ONE
   pub cover : (k : Side) (x : Tile p k) → (v : Piece) × Known s v × In p k x v

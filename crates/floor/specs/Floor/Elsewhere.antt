@@ -1,18 +1,18 @@
 -- Plans drawn elsewhere: where a job has any good plan, its walls run in no circle, and the plan by wall numbers is good. Assumes nothing.
-use mathlib.Core.Path.{_≡_, refl, sym, ap, _∙_}
+use mathlib.Core.Path.{_≡_, refl, _∙_}
 use mathlib.Core.Bool.{cond}
 use mathlib.Core.Option.{some}
-use mathlib.Core.List.{List, [], _∷_, map, List·Memᴰ}
+use mathlib.Core.List.{List, [], List·Memᴰ}
 use Prim.Native.Nat.{ℕ, _+_, _-_, _*_, _/_, _%_, _≤_, _<_}
 use native.Mathlib.Omega.{arith}
 use lib.Dec.{eqb}
 use lib.ListN.{length, getD}
 use borrow.Author.Tests.{eq-eqb, ne-eqb}
-use Rattle.floor.specs.Jobs.{Entry, Job, listOf}
+use Rattle.floor.specs.Jobs.{Entry, Job}
 use Rattle.floor.specs.Jobs.Facts.{Passes}
-use Rattle.floor.specs.Walls.{Numbers, Respects, Axis, upright, level, low, high, rules, at, jobNumbers}
+use Rattle.floor.specs.Walls.{Respects, Axis, upright, level, low, high, rules, at, jobNumbers}
 use Rattle.floor.specs.Walls.Rules.{Obeys, obeys-respects, numbered, numbers-are}
-use Rattle.floor.specs.Plans.{Plan, planOf, drawable}
+use Rattle.floor.specs.Plans.{Plan, planOf}
 use Rattle.floor.specs.Floor.{GoodPlan}
 use Rattle.floor.specs.Floor.Sides.{Side, up, right, opp, round, Piece, room, Place, size, Known, Meets, Good}
 use Rattle.floor.specs.Floor.Cover.{size-opp}
@@ -35,7 +35,8 @@ unfolding measure
 measure-high p k v = let e : (2 * v + 1) / 2 ≡ v = omega arith in rw (ne-eqb ((2 * v + 1) % 2) 0 (λ z. omega arith), e)
 
 module _ (j : Job) (ok : Passes j) (p : Place) (g : Good (starsOf j) p) where
-  meet : (k : Side) (i : ℕ) → i < length j → (e : Entry) → List·Memᴰ e (getD j i []) → e .kind ≡ num k → Known (starsOf j) (piece (e .to)) × Meets p k (room i) (piece (e .to))
+  meet : (k : Side) (i : ℕ) → i < length j → (e : Entry) → List·Memᴰ e (getD j i []) → e .kind ≡ num k
+      → Known (starsOf j) (piece (e .to)) × Meets p k (room i) (piece (e .to))
   unfolding starsOf
   meet k i h e m ke =
       let q : Known (starsOf j) (piece (e .to)) = known-piece j (e .to) (entry-ok j ok i h e m .below) in
@@ -46,21 +47,23 @@ module _ (j : Job) (ok : Passes j) (p : Place) (g : Good (starsOf j) p) where
       → ((u v : Piece) → Meets p c u v → (size p k < p .at k u + p .at (opp k) v) × (size p k < p .at (opp k) u + p .at k v)) → Obeys a (measure p k) j
   unfolding starsOf
   along a k c ef en ec cross = record {
-    own = λ i h. rw (measure-low p k (4 + i), measure-high p k (4 + i), piece-room i) (omega (arith, g .thick k (room i) h, g .inside (opp k) (room i) h, size-opp p k));
+    own = λ i h. rw (measure-low p k (4 + i), measure-high p k (4 + i), piece-room i)
+        (omega (arith, g .thick k (room i) h, g .inside (opp k) (room i) h, size-opp p k));
     each = λ i h e m. record {
       if-far = λ ke.
-        let (kn, t) = meet k i h e m (ke ∙ ef) in
-        rw (measure-low p k (e .to), measure-high p k (4 + i), piece-room i) (omega (arith, t .touch));
+          let (kn, t) = meet k i h e m (ke ∙ ef) in
+          rw (measure-low p k (e .to), measure-high p k (4 + i), piece-room i) (omega (arith, t .touch));
       if-near = λ ke.
-        let (kn, t) = meet (opp k) i h e m (ke ∙ en) in
-        let f : p .at (opp k) (room i) + p .at k (piece (e .to)) ≡ size p (opp k) = rw (round k) at (t .touch) in
-        rw (measure-low p k (4 + i), measure-high p k (e .to), piece-room i) (omega (arith, size-opp p k));
+          let (kn, t) = meet (opp k) i h e m (ke ∙ en) in
+          let f : p .at (opp k) (room i) + p .at k (piece (e .to)) ≡ size p (opp k) = rw (round k) at (t .touch) in
+          rw (measure-low p k (4 + i), measure-high p k (e .to), piece-room i) (omega (arith, size-opp p k));
       if-cross = λ ke l.
-        let (kn, t) = meet c i h e m (ke ∙ ec) in
-        let (x, y) = cross (room i) (piece (e .to)) t in
-        let d : p .at (opp k) (piece (e .to)) ≤ size p (opp k) = g .inside (opp k) (piece (e .to)) kn in
-        let f : p .at (opp k) (room i) ≤ size p (opp k) = g .inside (opp k) (room i) h in
-        rw (measure-low p k (4 + i), measure-low p k (e .to), measure-high p k (4 + i), measure-high p k (e .to), piece-room i) (omega (arith, size-opp p k), omega (arith, size-opp p k));
+          let (kn, t) = meet c i h e m (ke ∙ ec) in
+          let (x, y) = cross (room i) (piece (e .to)) t in
+          let d : p .at (opp k) (piece (e .to)) ≤ size p (opp k) = g .inside (opp k) (piece (e .to)) kn in
+          let f : p .at (opp k) (room i) ≤ size p (opp k) = g .inside (opp k) (room i) h in
+          rw (measure-low p k (4 + i), measure-low p k (e .to), measure-high p k (4 + i), measure-high p k (e .to), piece-room i)
+          (omega (arith, size-opp p k), omega (arith, size-opp p k));
     };
   }
 
@@ -92,6 +95,6 @@ good-ours j ok p gp =
       is-upright = ef;
       is-level = eh;
       good = good-plan j ok (planOf j (at f) (at h)) (plan-complete j (at f) (at h))
-        (good-again (starsOf j) (lawful j ok) (placeOf p) (placeOf (planOf j (at f) (at h))) g
-        (plan-fits j ok (omega (arith, b .0)) (at f) (at h) (numbers-are upright j ok f ef) (numbers-are level j ok h eh)));
+          (good-again (starsOf j) (lawful j ok) (placeOf p) (placeOf (planOf j (at f) (at h))) g
+          (plan-fits j ok (omega (arith, b .0)) (at f) (at h) (numbers-are upright j ok f ef) (numbers-are level j ok h eh)));
     }

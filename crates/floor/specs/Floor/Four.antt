@@ -1,10 +1,9 @@
 -- No point in four, and no two that meet only at a corner, say the same where every cell lies in exactly one. Assumes nothing.
-use mathlib.Core.Path.{_≡_, refl, sym, ap, _∙_, subst}
-use mathlib.Core.Logic.{_⊎_, inl, inr}
+use mathlib.Core.Path.{_≡_, sym, ap}
 use Prim.Native.Nat.{ℕ, zero, suc, _+_, _-_, _≤_, _<_}
 use native.Mathlib.Omega.{arith}
-use native.Mathlib.Decide.{decLe, decLt, ℕ-discrete}
-use Rattle.floor.specs.Floor.Sides.{Side, next, opp, prev, round, Piece, Place, size, Stars, Known, Tile, In, Good}
+use native.Mathlib.Decide.{decLt, ℕ-discrete}
+use Rattle.floor.specs.Floor.Sides.{Side, next, opp, prev, round, Piece, Place, size, Stars, Known, Tile, In}
 use Rattle.floor.specs.Floor.Cover.{size-opp}
 
 -- a grid point, seen in direction k: how far it lies from the edges
@@ -57,12 +56,16 @@ without-differ a u v (no h) (no k) x y d e = omega arith
 pigeon4 : (b c d e : ℕ) → b < 3 → c < 3 → d < 3 → e < 3 → (b ≡ c → ⊥) → (b ≡ d → ⊥) → (b ≡ e → ⊥) → (c ≡ d → ⊥) → (c ≡ e → ⊥) → (d ≡ e → ⊥) → ⊥
 pigeon4 b c d e hb hc hd he bc bd be cd ce de = omega arith
 
-pub pigeon : (a b c d e : ℕ) → a < 4 → b < 4 → c < 4 → d < 4 → e < 4 → (a ≡ b → ⊥) → (a ≡ c → ⊥) → (a ≡ d → ⊥) → (a ≡ e → ⊥) → (b ≡ c → ⊥) → (b ≡ d → ⊥) → (b ≡ e → ⊥) → (c ≡ d → ⊥) → (c ≡ e → ⊥) → (d ≡ e → ⊥) → ⊥
+pub pigeon : (a b c d e : ℕ) → a < 4 → b < 4 → c < 4 → d < 4 → e < 4 → (a ≡ b → ⊥) → (a ≡ c → ⊥) → (a ≡ d → ⊥) → (a ≡ e → ⊥) → (b ≡ c → ⊥) → (b ≡ d → ⊥)
+    → (b ≡ e → ⊥) → (c ≡ d → ⊥) → (c ≡ e → ⊥) → (d ≡ e → ⊥) → ⊥
 pigeon a b c d e ha hb hc hd he ab ac ad ae bc bd be cd ce de =
     pigeon4 (without a b (decLt b a)) (without a c (decLt c a)) (without a d (decLt d a)) (without a e (decLt e a))
-    (without-few a b 3 (decLt b a) ha hb ab) (without-few a c 3 (decLt c a) ha hc ac) (without-few a d 3 (decLt d a) ha hd ad) (without-few a e 3 (decLt e a) ha he ae)
-    (without-differ a b c (decLt b a) (decLt c a) ab ac bc) (without-differ a b d (decLt b a) (decLt d a) ab ad bd) (without-differ a b e (decLt b a) (decLt e a) ab ae be)
-    (without-differ a c d (decLt c a) (decLt d a) ac ad cd) (without-differ a c e (decLt c a) (decLt e a) ac ae ce) (without-differ a d e (decLt d a) (decLt e a) ad ae de)
+    (without-few a b 3 (decLt b a) ha hb ab) (without-few a c 3 (decLt c a) ha hc ac) (without-few a d 3 (decLt d a) ha hd ad)
+    (without-few a e 3 (decLt e a) ha he ae)
+    (without-differ a b c (decLt b a) (decLt c a) ab ac bc) (without-differ a b d (decLt b a) (decLt d a) ab ad bd)
+    (without-differ a b e (decLt b a) (decLt e a) ab ae be)
+    (without-differ a c d (decLt c a) (decLt d a) ac ad cd) (without-differ a c e (decLt c a) (decLt e a) ac ae ce)
+    (without-differ a d e (decLt d a) (decLt e a) ad ae de)
 
 module _ (s : Stars) (p : Place)
     (inside : (k : Side) (v : Piece) → Known s v → p .at k v ≤ size p k)
@@ -75,9 +78,30 @@ module _ (s : Stars) (p : Place)
   pub four-corner : (cover : (k : Side) (x : Tile p k) → (v : Piece) × Known s v × In p k x v) (k : Side) → NoFour s p k
       → (u v : Piece) → Known s u → Known s v → p .at k u + p .at (opp k) v ≡ size p k → p .at (next k) u + p .at (prev k) v ≡ size p (next k) → ⊥
   four-corner cover k no-four u v hu hv e f =
-      let y : Tile p k = record { a = p .at k u; b = p .at (next k) u - 1; c = p .at (opp k) v - 1; d = p .at (prev k) v; ac = omega (arith, pos (opp k) v hv); bd = omega (arith, pos (next k) u hu) } in
-      let z : Tile p k = record { a = p .at k u - 1; b = p .at (next k) u; c = p .at (opp k) v; d = p .at (prev k) v - 1; ac = omega (arith, pos k u hu); bd = omega (arith, pos (prev k) v hv) } in
-      let q : Tile p k = record { a = p .at k u - 1; b = p .at (next k) u - 1; c = p .at (opp k) v; d = p .at (prev k) v; ac = omega (arith, pos k u hu); bd = omega (arith, pos (next k) u hu) } in
+      let y : Tile p k = record {
+        a = p .at k u;
+        b = p .at (next k) u - 1;
+        c = p .at (opp k) v - 1;
+        d = p .at (prev k) v;
+        ac = omega (arith, pos (opp k) v hv);
+        bd = omega (arith, pos (next k) u hu);
+      } in
+      let z : Tile p k = record {
+        a = p .at k u - 1;
+        b = p .at (next k) u;
+        c = p .at (opp k) v;
+        d = p .at (prev k) v - 1;
+        ac = omega (arith, pos k u hu);
+        bd = omega (arith, pos (prev k) v hv);
+      } in
+      let q : Tile p k = record {
+        a = p .at k u - 1;
+        b = p .at (next k) u - 1;
+        c = p .at (opp k) v;
+        d = p .at (prev k) v;
+        ac = omega (arith, pos k u hu);
+        bd = omega (arith, pos (next k) u hu);
+      } in
       let x : Knot p k = record { a = p .at k u; b = p .at (next k) u; c = p .at (opp k) v; d = p .at (prev k) v; ac = e; bd = f } in
       let (w, hw, n) = cover k y in
       let (t, ht, m) = cover k z in
@@ -97,8 +121,8 @@ module _ (s : Stars) (p : Place)
       (λ same. omega (arith, m .inc, ap (p .at (opp k)) same))
       (λ same.
       let back : u ≡ w = alone k q u w hu hw
-        (record { ina = omega (arith, pos k u hu); inb = omega (arith, pos (next k) u hu); inc = omega arith; ind = omega arith })
-        (record { ina = omega (arith, n .ina); inb = omega (arith, n .inb); inc = omega (arith, m .inc, ap (p .at (opp k)) same); ind = n .ind }) in
+      (record { ina = omega (arith, pos k u hu); inb = omega (arith, pos (next k) u hu); inc = omega arith; ind = omega arith })
+      (record { ina = omega (arith, n .ina); inb = omega (arith, n .inb); inc = omega (arith, m .inc, ap (p .at (opp k)) same); ind = n .ind }) in
       omega (arith, n .ina, ap (p .at k) back))
 
   -- the quarter of the point that v covers: 0 towards k and next k, then counterclockwise
@@ -122,31 +146,65 @@ module _ (s : Stars) (p : Place)
       go : Dec (x .a < p .at k v) → Dec (x .b < p .at (next k) v) → Held k x v
       go (yes e) (yes f) = record { known = h; on = n; part = 0; few = omega arith; covers = (e, f) }
       go (no e) (yes f) = record { known = h; on = n; part = 1; few = omega arith; covers = (omega (arith, thick k v h, x .ac), f) }
-      go (no e) (no f) = record { known = h; on = n; part = 2; few = omega arith; covers = (omega (arith, thick k v h, x .ac), omega (arith, thick (next k) v h, x .bd)) }
+      go (no e) (no f) = record {
+        known = h;
+        on = n;
+        part = 2;
+        few = omega arith;
+        covers = (omega (arith, thick k v h, x .ac), omega (arith, thick (next k) v h, x .bd));
+      }
       go (yes e) (no f) = record { known = h; on = n; part = 3; few = omega arith; covers = (e, omega (arith, thick (next k) v h, x .bd)) }
 
   -- a quarter is a cell
-  one-quarter : (k : Side) (x : Knot p k) (u v : Piece) → Known s u → Known s v → On p k x u → On p k x v → (m : ℕ) → Quarter k x u m → Quarter k x v m → u ≡ v
+  one-quarter : (k : Side) (x : Knot p k) (u v : Piece) → Known s u → Known s v → On p k x u → On p k x v → (m : ℕ) → Quarter k x u m → Quarter k x v m
+      → u ≡ v
   one-quarter k x u v hu hv nu nv zero e f =
-      alone k (record { a = x .a; b = x .b; c = x .c - 1; d = x .d - 1; ac = omega (arith, x .ac, inside k u hu, e .0); bd = omega (arith, x .bd, inside (next k) u hu, e .1) }) u v hu hv
+      alone k (record {
+        a = x .a;
+        b = x .b;
+        c = x .c - 1;
+        d = x .d - 1;
+        ac = omega (arith, x .ac, inside k u hu, e .0);
+        bd = omega (arith, x .bd, inside (next k) u hu, e .1);
+      }) u v hu hv
       (record { ina = e .0; inb = e .1; inc = omega (arith, nu .onc, pos (opp k) u hu); ind = omega (arith, nu .ond, pos (prev k) u hu) })
       (record { ina = f .0; inb = f .1; inc = omega (arith, nv .onc, pos (opp k) v hv); ind = omega (arith, nv .ond, pos (prev k) v hv) })
   one-quarter k x u v hu hv nu nv (suc zero) e f =
-      alone k (record { a = x .a - 1; b = x .b; c = x .c; d = x .d - 1; ac = omega (arith, x .ac, inside (opp k) u hu, size-opp p k, e .0); bd = omega (arith, x .bd, inside (next k) u hu, e .1) }) u v hu hv
+      alone k (record {
+        a = x .a - 1;
+        b = x .b;
+        c = x .c;
+        d = x .d - 1;
+        ac = omega (arith, x .ac, inside (opp k) u hu, size-opp p k, e .0);
+        bd = omega (arith, x .bd, inside (next k) u hu, e .1);
+      }) u v hu hv
       (record { ina = omega (arith, nu .ona, pos k u hu); inb = e .1; inc = e .0; ind = omega (arith, nu .ond, pos (prev k) u hu) })
       (record { ina = omega (arith, nv .ona, pos k v hv); inb = f .1; inc = f .0; ind = omega (arith, nv .ond, pos (prev k) v hv) })
   one-quarter k x u v hu hv nu nv (suc (suc zero)) e f =
-      alone k (record { a = x .a - 1; b = x .b - 1; c = x .c; d = x .d; ac = omega (arith, x .ac, inside (opp k) u hu, size-opp p k, e .0); bd = omega (arith, x .bd, inside (prev k) u hu, size-opp p (next k), e .1) }) u v hu hv
+      alone k (record {
+        a = x .a - 1;
+        b = x .b - 1;
+        c = x .c;
+        d = x .d;
+        ac = omega (arith, x .ac, inside (opp k) u hu, size-opp p k, e .0);
+        bd = omega (arith, x .bd, inside (prev k) u hu, size-opp p (next k), e .1);
+      }) u v hu hv
       (record { ina = omega (arith, nu .ona, pos k u hu); inb = omega (arith, nu .onb, pos (next k) u hu); inc = e .0; ind = e .1 })
       (record { ina = omega (arith, nv .ona, pos k v hv); inb = omega (arith, nv .onb, pos (next k) v hv); inc = f .0; ind = f .1 })
   one-quarter k x u v hu hv nu nv (suc (suc (suc m))) e f =
-      alone k (record { a = x .a; b = x .b - 1; c = x .c - 1; d = x .d; ac = omega (arith, x .ac, inside k u hu, e .0); bd = omega (arith, x .bd, inside (prev k) u hu, size-opp p (next k), e .1) }) u v hu hv
+      alone k (record {
+        a = x .a;
+        b = x .b - 1;
+        c = x .c - 1;
+        d = x .d;
+        ac = omega (arith, x .ac, inside k u hu, e .0);
+        bd = omega (arith, x .bd, inside (prev k) u hu, size-opp p (next k), e .1);
+      }) u v hu hv
       (record { ina = e .0; inb = omega (arith, nu .onb, pos (next k) u hu); inc = omega (arith, nu .onc, pos (opp k) u hu); ind = e .1 })
       (record { ina = f .0; inb = omega (arith, nv .onb, pos (next k) v hv); inc = omega (arith, nv .onc, pos (opp k) v hv); ind = f .1 })
 
   differ : (k : Side) (x : Knot p k) (u v : Piece) (hu : Held k x u) (hv : Held k x v) → (u ≡ v → ⊥) → hu .part ≡ hv .part → ⊥
   differ k x u v hu hv d e = d (one-quarter k x u v (hu .known) (hv .known) (hu .on) (hv .on) (hv .part) (rw e at (hu .covers)) (hv .covers))
-
 
   -- one of four different ones at a point covers a single quarter
   Narrow : (k : Side) → Knot p k → Piece → Type 0
@@ -177,7 +235,8 @@ module _ (s : Stars) (p : Place)
 
   holder : (k : Side) (x : Knot p k) (m : ℕ) → m < 4 → (t u v w : Piece) → Held k x t → Held k x u → Held k x v → Held k x w
       → (t ≡ u → ⊥) → (t ≡ v → ⊥) → (t ≡ w → ⊥) → (u ≡ v → ⊥) → (u ≡ w → ⊥) → (v ≡ w → ⊥) → Holder k x m
-  holder k x m hm t u v w ht hu hv hw tu tv tw uv uw vw = go (ℕ-discrete m (ht .part)) (ℕ-discrete m (hu .part)) (ℕ-discrete m (hv .part)) (ℕ-discrete m (hw .part))
+  holder k x m hm t u v w ht hu hv hw tu tv tw uv uw vw = go (ℕ-discrete m (ht .part)) (ℕ-discrete m (hu .part)) (ℕ-discrete m (hv .part))
+      (ℕ-discrete m (hw .part))
     where
       make : (z : Piece) (h : Held k x z) → m ≡ h .part → Narrow k x z → Holder k x m
       make z h e n = record { who = z; is-known = h .known; is-on = h .on; there = rw e (h .covers); alone-there = n }
@@ -189,19 +248,24 @@ module _ (s : Stars) (p : Place)
       go (no a) (no b) (no c) (yes e) = make w hw e (narrow k x w t u v hw ht hu hv (λ z. tw (sym z)) (λ z. uw (sym z)) (λ z. vw (sym z)) tu tv uv)
       go (no a) (no b) (no c) (no d) =
           absurd (pigeon m (ht .part) (hu .part) (hv .part) (hw .part) hm (ht .few) (hu .few) (hv .few) (hw .few) a b c d
-          (differ k x t u ht hu tu) (differ k x t v ht hv tv) (differ k x t w ht hw tw) (differ k x u v hu hv uv) (differ k x u w hu hw uw) (differ k x v w hv hw vw))
+          (differ k x t u ht hu tu) (differ k x t v ht hv tv) (differ k x t w ht hw tw) (differ k x u v hu hv uv) (differ k x u w hu hw uw)
+          (differ k x v w hv hw vw))
 
   -- four at a point: those in opposite quarters meet only there
-  pub corner-four : (k : Side) → ((u v : Piece) → Known s u → Known s v → p .at k u + p .at (opp k) v ≡ size p k → p .at (next k) u + p .at (prev k) v ≡ size p (next k) → ⊥) → NoFour s p k
+  pub corner-four : (k : Side) → ((u v : Piece) → Known s u → Known s v → p .at k u + p .at (opp k) v ≡ size p k
+      → p .at (next k) u + p .at (prev k) v ≡ size p (next k) → ⊥) → NoFour s p k
   unfolding Narrow
   corner-four k corner x t u v w kt ku kv kw nt nu nv nw tu tv tw uv uw vw =
-      let get : (m : ℕ) → m < 4 → Holder k x m = λ m hm. holder k x m hm t u v w (held k x t kt nt) (held k x u ku nu) (held k x v kv nv) (held k x w kw nw) tu tv tw uv uw vw in
+      let get : (m : ℕ) → m < 4 → Holder k x m = λ m hm. holder k x m hm t u v w (held k x t kt nt) (held k x u ku nu) (held k x v kv nv)
+      (held k x w kw nw) tu tv tw uv uw vw in
       meet (get 2 (omega arith)) (get 0 (omega arith))
     where
       meet : Holder k x 2 → Holder k x 0 → ⊥
-      meet a b = go (decLt (x .a) (p .at k (a .who))) (decLt (x .b) (p .at (next k) (a .who))) (decLt (x .c) (p .at (opp k) (b .who))) (decLt (x .d) (p .at (prev k) (b .who)))
+      meet a b = go (decLt (x .a) (p .at k (a .who))) (decLt (x .b) (p .at (next k) (a .who))) (decLt (x .c) (p .at (opp k) (b .who)))
+          (decLt (x .d) (p .at (prev k) (b .who)))
         where
-          go : Dec (x .a < p .at k (a .who)) → Dec (x .b < p .at (next k) (a .who)) → Dec (x .c < p .at (opp k) (b .who)) → Dec (x .d < p .at (prev k) (b .who)) → ⊥
+          go : Dec (x .a < p .at k (a .who)) → Dec (x .b < p .at (next k) (a .who)) → Dec (x .c < p .at (opp k) (b .who))
+              → Dec (x .d < p .at (prev k) (b .who)) → ⊥
           go (yes e) f g h = omega (arith, a .alone-there 2 3 (omega arith) (omega arith) (a .there) (e, a .there .1))
           go (no e) (yes f) g h = omega (arith, a .alone-there 2 1 (omega arith) (omega arith) (a .there) (a .there .0, f))
           go (no e) (no f) (yes g) h = omega (arith, b .alone-there 0 1 (omega arith) (omega arith) (b .there) (g, b .there .1))

@@ -1,20 +1,20 @@
 -- Who is joined to whom: the test, the demand's words and the theory's contacts say the same. Assumes nothing.
 use mathlib.Core.Path.{_≡_, refl, sym, ap, _∙_}
 use mathlib.Core.Logic.{_⊎_, inl, inr}
-use mathlib.Core.Bool.{Bool, true, false, _&&_, _||_}
-use mathlib.Core.List.{List, [], _∷_, map, List·Memᴰ}
-use Prim.Native.Nat.{ℕ, zero, suc, _+_, _%_, _≤_, _<_}
+use mathlib.Core.Bool.{true, _||_}
+use mathlib.Core.List.{[], map, List·Memᴰ}
+use Prim.Native.Nat.{ℕ, zero, suc, _+_, _%_, _<_}
 use native.Mathlib.Omega.{arith}
 use lib.Dec.{ltb, eqb}
-use lib.ListN.{length, getD}
-use borrow.Author.Tests.{eqb-true, ltb-true, lt-ltb, eq-eqb}
-use Rattle.floor.specs.Lists.{any}
-use Rattle.floor.specs.Lists.Laws.{no-false, and-parts, and-both, or-cases, or-left, or-right, any-mem, mem-any}
+use lib.ListN.{getD}
+use borrow.Author.Tests.{eqb-true, ltb-true, eq-eqb}
+use Rattle.floor.specs.Lists.Laws.{and-parts, or-cases, or-left, or-right, any-mem, mem-any}
 use Rattle.floor.specs.Jobs.{Entry, Job, starOf, listOf, names as namesIn}
 use Rattle.floor.specs.Jobs.Facts.{Passes, star-at, star-frame}
 use Rattle.floor.specs.Plans.{nextSide, joined}
 use Rattle.floor.specs.Floor.{Names, Around, n-w, w-s, s-e, e-n, Joined, names, named, around, around′}
-use Rattle.floor.specs.Floor.Sides.{Side, up, left, down, right, opp, round, Piece, side, room, Place, size, Stars, Known, Contact, Beside, wn, ws, ne, se, nw, sw, en, es, Meets}
+use Rattle.floor.specs.Floor.Sides.{Side, up, left, down, right, opp, round, Piece, side, room, Place, size, Stars, Known, Contact, Beside, wn, ws, ne}
+use Rattle.floor.specs.Floor.Sides.{se, nw, sw, en, es, Meets}
 use Rattle.floor.specs.Floor.Whole.{beside-back}
 use Rattle.floor.specs.Floor.Read.{num, number, piece, piece-number, number-same, few-sides, kind-side, starsOf, mem-entry, entry-mem, entry-ok, lawful}
 
@@ -140,7 +140,8 @@ module _ (j : Job) (ok : Passes j) where
   contact-joined k (side t) (side r) m = beside-joined j m
 
 -- two pieces meet on one side only
-meet-once : (p : Place) (k c : Side) (u v : Piece) → size p k < p .at k u + p .at (opp k) u → size p k < p .at k v + p .at (opp k) v → Meets p k u v → Meets p c u v → c ≡ k
+meet-once : (p : Place) (k c : Side) (u v : Piece) → size p k < p .at k u + p .at (opp k) u → size p k < p .at k v + p .at (opp k) v → Meets p k u v
+    → Meets p c u v → c ≡ k
 meet-once p up up u v a b m n = refl
 meet-once p left left u v a b m n = refl
 meet-once p down down u v a b m n = refl

@@ -10,7 +10,6 @@ use borrow.Author.Tests.{eq-eqb, ne-eqb}
 use Rattle.floor.specs.Jobs.{Entry, Job, Vertex, Room, starOf}
 use Rattle.floor.specs.Jobs.Facts.{Passes, star-at}
 use Rattle.floor.specs.Walls.{Numbers, upright, level, low, high, rules}
-use Rattle.floor.specs.Walls.Walk.{numbers-positive}
 use Rattle.floor.specs.Walls.Rules.{Obeys, obeys-respects, numbers-least}
 use Rattle.floor.specs.Plans.{Plan, rectOf}
 use Rattle.floor.specs.Floor.{Stands}
@@ -41,8 +40,9 @@ pub record NoLarger (j : Job) (f from to : ℕ → ℕ) (first last : ℕ) : Typ
 -- one direction; c is the side of its cross contacts
 module _ (j : Job) (ok : Passes j) (some-room : 0 < length j) (w : Way j) (c : Side) (is-cross : w .axis .cross ≡ num c) (from to : ℕ → ℕ)
     (thick : (v : ℕ) → Vertex j v → from v < to v)
-    (met : (i : ℕ) → i < length j → (e : Entry) → List·Memᴰ e (getD j i []) → (e .kind ≡ num (w .to) → to (4 + i) ≡ from (e .to)) × (e .kind ≡ num (opp (w .to)) → from (4 + i) ≡ to (e .to))
-      × (e .kind ≡ num c → (from (4 + i) < to (e .to)) × (from (e .to) < to (4 + i)))) where
+    (met : (i : ℕ) → i < length j → (e : Entry) → List·Memᴰ e (getD j i [])
+    → (e .kind ≡ num (w .to) → to (4 + i) ≡ from (e .to)) × (e .kind ≡ num (opp (w .to)) → from (4 + i) ≡ to (e .to))
+    × (e .kind ≡ num c → (from (4 + i) < to (e .to)) × (from (e .to) < to (4 + i)))) where
   -- a room lies past something at least one cell thick
   positive : (i : ℕ) → i < length j → 1 ≤ from (4 + i)
   positive i h =
@@ -56,25 +56,32 @@ module _ (j : Job) (ok : Passes j) (some-room : 0 < length j) (w : Way j) (c : S
       if-far = λ q. rw (places-high from to (4 + i), places-low from to (e .to)) (ap (λ n. max 1 n) (met i h e m .0 (q ∙ w .is-far)));
       if-near = λ q. rw (places-high from to (e .to), places-low from to (4 + i)) (ap (λ n. max 1 n) (sym (met i h e m .1 (q ∙ w .is-near))));
       if-cross = λ q l.
-        let (a, b) = met i h e m .2 (q ∙ is-cross) in
-        let z : 4 + (e .to - 4) ≡ e .to = omega arith in
-        let y : 1 ≤ from (e .to) = rw z at (positive (e .to - 4) (omega (arith, entry-ok j ok i h e m .below))) in
-        rw (places-low from to (4 + i), places-low from to (e .to), places-high from to (4 + i), places-high from to (e .to)) (omega (arith, positive i h), omega arith);
+          let (a, b) = met i h e m .2 (q ∙ is-cross) in
+          let z : 4 + (e .to - 4) ≡ e .to = omega arith in
+          let y : 1 ≤ from (e .to) = rw z at (positive (e .to - 4) (omega (arith, entry-ok j ok i h e m .below))) in
+          rw (places-low from to (4 + i), places-low from to (e .to), places-high from to (4 + i), places-high from to (e .to))
+          (omega (arith, positive i h), omega arith);
     };
   }
 
   least : (n : ℕ) → w .number-of n ≤ places from to n
-  least = numbers-least (w .axis) j (w .number-of) (places from to) (w .numbers) (λ s. unfold places in omega arith) (obeys-respects (w .axis) (places from to) j obeys)
+  least = numbers-least (w .axis) j (w .number-of) (places from to) (w .numbers) (λ s. unfold places in omega arith)
+      (obeys-respects (w .axis) (places from to) j obeys)
 
   pub no-larger : NoLarger j (w .number-of) from to (num (opp (w .to))) (num (w .to))
   no-larger = record {
     at-low = λ i h. omega (arith, rw (places-low from to (4 + i)) at (least (low (4 + i))), positive i h);
     at-high = λ i h. omega (arith, rw (places-high from to (4 + i)) at (least (high (4 + i))), thick (4 + i) (omega arith));
     at-first =
-      omega (arith, rw (places-high from to (num (opp (w .to)))) at (least (high (num (opp (w .to))))), thick (num (opp (w .to))) (omega (arith, few-sides (opp (w .to)))));
+        omega (
+          arith,
+          rw (places-high from to (num (opp (w .to)))) at (least (high (num (opp (w .to))))),
+          thick (num (opp (w .to)))
+              (omega (arith, few-sides (opp (w .to)))),
+        );
     at-last =
-      let l : Lies j ok w 0 = lies j ok w 0 some-room in
-      omega (arith, rw (places-low from to (num (w .to))) at (least (low (num (w .to)))), l .first, l .own, l .last);
+        let l : Lies j ok w 0 = lies j ok w 0 some-room in
+        omega (arith, rw (places-low from to (num (w .to))) at (least (low (num (w .to)))), l .first, l .own, l .last);
   }
 
 -- a placing of all vertices, each at least a cell, in which every contact is met on its labelled side
@@ -90,10 +97,34 @@ module _ (j : Job) (ok : Passes j) (some-room : 0 < length j) (p : Plan) (g : Pl
   -- NOTHING SMALLER, in either direction
   pub nothing-narrower : (f : ℕ → ℕ) → Numbers (rules upright j) f → NoLarger j f (λ v. rectOf p v .x1) (λ v. rectOf p v .x2) 1 3
   nothing-narrower f n =
-      no-larger j ok some-room (record { axis = upright; to = right; is-far = refl; is-near = refl; number-of = f; numbers = n }) up refl (λ v. rectOf p v .x1) (λ v. rectOf p v .x2) (g .wide)
-      (λ i h e m. (λ q. stands i h e m 3 q .line, λ q. sym (stands i h e m 1 q .line), λ q. let s = stands i h e m 0 q in (omega (arith, s .starts, s .ends′), omega (arith, s .starts′, s .ends))))
+      no-larger j ok some-room (record {
+        axis = upright;
+        to = right;
+        is-far = refl;
+        is-near = refl;
+        number-of = f;
+        numbers = n;
+      }) up refl (λ v. rectOf p v .x1) (λ v. rectOf p v .x2) (g .wide)
+      (λ i h e m. (
+        λ q. stands i h e m 3 q .line,
+        λ q. sym (stands i h e m 1 q .line),
+        λ q. let s =
+            stands i h e m 0 q in (omega (arith, s .starts, s .ends′), omega (arith, s .starts′, s .ends)),
+      ))
 
   pub nothing-lower : (f : ℕ → ℕ) → Numbers (rules level j) f → NoLarger j f (λ v. rectOf p v .y1) (λ v. rectOf p v .y2) 2 0
   nothing-lower f n =
-      no-larger j ok some-room (record { axis = level; to = up; is-far = refl; is-near = refl; number-of = f; numbers = n }) right refl (λ v. rectOf p v .y1) (λ v. rectOf p v .y2) (g .tall)
-      (λ i h e m. (λ q. stands i h e m 0 q .line, λ q. sym (stands i h e m 2 q .line), λ q. let s = stands i h e m 3 q in (omega (arith, s .starts, s .ends′), omega (arith, s .starts′, s .ends))))
+      no-larger j ok some-room (record {
+        axis = level;
+        to = up;
+        is-far = refl;
+        is-near = refl;
+        number-of = f;
+        numbers = n;
+      }) right refl (λ v. rectOf p v .y1) (λ v. rectOf p v .y2) (g .tall)
+      (λ i h e m. (
+        λ q. stands i h e m 0 q .line,
+        λ q. sym (stands i h e m 2 q .line),
+        λ q. let s =
+            stands i h e m 3 q in (omega (arith, s .starts, s .ends′), omega (arith, s .starts′, s .ends)),
+      ))

@@ -1,24 +1,25 @@
 -- The drawing test star by star: on a plan by wall numbers three linear checks give the drawing test's own answer. Assumes nothing.
-use mathlib.Core.Path.{_≡_, refl, sym, ap, _∙_}
+use mathlib.Core.Path.{_≡_, refl, ap, _∙_}
 use mathlib.Core.Logic.{_⊎_, inl, inr}
 use mathlib.Core.Bool.{Bool, true, false, cond, _&&_, _||_}
 use mathlib.Core.List.{List, [], _∷_, map, List·Memᴰ, List·Memᴰ·head, List·Memᴰ·tail}
-use Prim.Native.Nat.{ℕ, suc, _+_, _≤_, _<_}
+use Prim.Native.Nat.{ℕ, _+_, _<_}
 use native.Mathlib.Omega.{arith}
 use lib.Dec.{ltb, eqb}
 use lib.ListN.{length, getD}
 use borrow.Author.Tests.{eqb-true, ltb-true, eq-eqb, lt-ltb}
-use Rattle.floor.specs.Lists.{all, any, upFrom}
+use Rattle.floor.specs.Lists.{all, upFrom}
 use Rattle.floor.specs.Lists.Laws.{no-false, same-test, and-parts, or-cases, or-right, all-mem, mem-all, any-mem, mem-any, upFrom-mem, mem-upFrom}
-use Rattle.floor.specs.Jobs.{Entry, Star, Job, lists, listOf}
+use Rattle.floor.specs.Jobs.{Star, Job, lists, listOf}
 use Rattle.floor.specs.Jobs.Facts.{Passes}
 use Rattle.floor.specs.Walls.{Numbers, upright, level, rules}
 use Rattle.floor.specs.Plans.{Plan, planOf, drawable}
-use Rattle.floor.specs.Floor.Sides.{Side, up, left, down, right, next, prev, Piece, side, room, Place, size, Stars, Known, Lawful, AtFirst, AtLast, Linked, Rounds, Local, Good, Fits, Base}
+use Rattle.floor.specs.Floor.Sides.{Side, up, left, down, right, next, prev, Piece, side, room, Place, size, Stars, Lawful, AtFirst, AtLast, Linked}
+use Rattle.floor.specs.Floor.Sides.{Rounds, Local, Fits, Base}
 use Rattle.floor.specs.Floor.Tiles.{named-known}
 use Rattle.floor.specs.Floor.Whole.{local-good}
 use Rattle.floor.specs.Floor.Parts.{good-local}
-use Rattle.floor.specs.Floor.Read.{num, number, piece, number-piece, piece-number, starsOf, mem-entry, entry-mem, lawful}
+use Rattle.floor.specs.Floor.Read.{num, piece, piece-number, starsOf, mem-entry, entry-mem, lawful}
 use Rattle.floor.specs.Floor.Placed.{placeOf}
 use Rattle.floor.specs.Floor.Bridge.{good-plan}
 use Rattle.floor.specs.Floor.Area.{total, total-one, total-some, total-unique}
@@ -33,7 +34,8 @@ abuts p k (v ∷ w ∷ l) = eqb (p .at (next k) v + p .at (prev k) w) (size p (n
 
 -- at the corner one ends flush and the other goes past
 unfoldable pub turned : Place → Side → Piece → Piece → Piece → Bool
-turned p k u a b = eqb (p .at (next k) a) (p .at (next k) u) && ltb (p .at k u) (p .at k b) || ltb (p .at (next k) u) (p .at (next k) a) && eqb (p .at k b) (p .at k u)
+turned p k u a b = eqb (p .at (next k) a) (p .at (next k) u) && ltb (p .at k u) (p .at k b) || ltb (p .at (next k) u) (p .at (next k) a) && eqb
+    (p .at k b) (p .at k u)
 
 unfoldable pub atFirst : (Piece → Bool) → List Piece → Bool
 atFirst f [] = false
@@ -97,16 +99,22 @@ test-last f P (v ∷ w ∷ l) h e = test-last f P (w ∷ l) h e
 
 turned-turns : (p : Place) (k : Side) (u a b : Piece) → turned p k u a b ≡ true → Rounds p k u a b
 unfolding turned
-turned-turns p k u a b e = go (or-cases (eqb (p .at (next k) a) (p .at (next k) u) && ltb (p .at k u) (p .at k b)) (ltb (p .at (next k) u) (p .at (next k) a) && eqb (p .at k b) (p .at k u)) e)
+turned-turns p k u a b e = go (or-cases (eqb (p .at (next k) a) (p .at (next k) u) && ltb (p .at k u) (p .at k b))
+    (ltb (p .at (next k) u) (p .at (next k) a) && eqb (p .at k b) (p .at k u)) e)
   where
-    go : ((eqb (p .at (next k) a) (p .at (next k) u) && ltb (p .at k u) (p .at k b)) ≡ true) ⊎ ((ltb (p .at (next k) u) (p .at (next k) a) && eqb (p .at k b) (p .at k u)) ≡ true) → Rounds p k u a b
-    go (inl f) = let (x, y) = and-parts (eqb (p .at (next k) a) (p .at (next k) u)) (ltb (p .at k u) (p .at k b)) f in inl (eqb-true (p .at (next k) a) (p .at (next k) u) x, ltb-true (p .at k u) (p .at k b) y)
-    go (inr f) = let (x, y) = and-parts (ltb (p .at (next k) u) (p .at (next k) a)) (eqb (p .at k b) (p .at k u)) f in inr (ltb-true (p .at (next k) u) (p .at (next k) a) x, eqb-true (p .at k b) (p .at k u) y)
+    go : ((eqb (p .at (next k) a) (p .at (next k) u) && ltb (p .at k u) (p .at k b)) ≡ true)
+        ⊎ ((ltb (p .at (next k) u) (p .at (next k) a) && eqb (p .at k b) (p .at k u)) ≡ true) → Rounds p k u a b
+    go (inl f) = let (x, y) = and-parts (eqb (p .at (next k) a) (p .at (next k) u)) (ltb (p .at k u) (p .at k b)) f in inl
+        (eqb-true (p .at (next k) a) (p .at (next k) u) x, ltb-true (p .at k u) (p .at k b) y)
+    go (inr f) = let (x, y) = and-parts (ltb (p .at (next k) u) (p .at (next k) a)) (eqb (p .at k b) (p .at k u)) f in inr
+        (ltb-true (p .at (next k) u) (p .at (next k) a) x, eqb-true (p .at k b) (p .at k u) y)
 
 turns-turned : (p : Place) (k : Side) (u a b : Piece) → Rounds p k u a b → turned p k u a b ≡ true
 unfolding turned
 turns-turned p k u a b (inl e) = rw (eq-eqb (p .at (next k) a) (p .at (next k) u) (e .0), lt-ltb (p .at k u) (p .at k b) (e .1))
-turns-turned p k u a b (inr e) = or-right (eqb (p .at (next k) a) (p .at (next k) u) && ltb (p .at k u) (p .at k b)) (ltb (p .at (next k) u) (p .at (next k) a) && eqb (p .at k b) (p .at k u)) (rw (lt-ltb (p .at (next k) u) (p .at (next k) a) (e .0), eq-eqb (p .at k b) (p .at k u) (e .1)))
+turns-turned p k u a b (inr e) = or-right (eqb (p .at (next k) a) (p .at (next k) u) && ltb (p .at k u) (p .at k b))
+    (ltb (p .at (next k) u) (p .at (next k) a) && eqb (p .at k b) (p .at k u))
+    (rw (lt-ltb (p .at (next k) u) (p .at (next k) a) (e .0), eq-eqb (p .at k b) (p .at k u) (e .1)))
 
 side-mem : (k : Side) → List·Memᴰ k sides
 side-mem up = List·Memᴰ·head refl
@@ -170,7 +178,9 @@ module _ (j : Job) (ok : Passes j) where
     near-local e =
         let (a, b) = and-parts (all (λ i. all (sideOk (starsOf j) (placeOf pl) i) sides) (upFrom 0 (length j))) (eqb (total (length j) one) 1) e in
         let t : total (length j) one ≡ 1 = eqb-true (total (length j) one) 1 b in
-        let each : (k : Side) (i : ℕ) → i < length j → sideOk (starsOf j) (placeOf pl) i k ≡ true = λ k i h. all-mem (sideOk (starsOf j) (placeOf pl) i) sides (all-mem (λ i. all (sideOk (starsOf j) (placeOf pl) i) sides) (upFrom 0 (length j)) a i (upFrom-mem 0 (length j) i (omega arith) (omega arith))) k (side-mem k) in
+        let each : (k : Side) (i : ℕ) → i < length j → sideOk (starsOf j) (placeOf pl) i k ≡ true = λ k i h. all-mem (sideOk (starsOf j) (placeOf pl) i)
+        sides (all-mem (λ i. all (sideOk (starsOf j) (placeOf pl) i) sides) (upFrom 0 (length j)) a i
+        (upFrom-mem 0 (length j) i (omega arith) (omega arith))) k (side-mem k) in
         record {
           shape = ft .shape;
           inside = ft .inside;
@@ -178,26 +188,32 @@ module _ (j : Job) (ok : Passes j) where
           within = ft .within;
           meets = λ k i v h m. ft .meets k (room i) v h (named-known (starsOf j) k v (g .known k i v h m)) m;
           linked = λ k i h. abuts-linked (placeOf pl) k (starsOf j .list k i) (halves k i (each k i h) .0);
-          turns = λ k i h. last-test _ _ (starsOf j .list k i) (λ a x. first-test _ _ (starsOf j .list (next k) i) (λ b y. turned-turns (placeOf pl) k (room i) a b y) x) (halves k i (each k i h) .1);
+          turns = λ k i h. last-test _ _ (starsOf j .list k i) (λ a x. first-test _ _ (starsOf j .list (next k) i)
+              (λ b y. turned-turns (placeOf pl) k (room i) a b y) x) (halves k i (each k i h) .1);
           base = let (i, h, w) = total-some (length j) one (omega arith) in (i, base-of i h (one-true i w));
-          base-one = λ i k x y. total-unique (length j) i k one t (x .0) (y .0) (omega (arith, true-one i (of-base i x))) (omega (arith, true-one k (of-base k y)));
+          base-one = λ i k x y. total-unique (length j) i k one t (x .0) (y .0) (omega (arith, true-one i (of-base i x)))
+              (omega (arith, true-one k (of-base k y)));
         }
       where
         halves : (k : Side) (i : ℕ) → sideOk (starsOf j) (placeOf pl) i k ≡ true
-            → (abuts (placeOf pl) k (starsOf j .list k i) ≡ true) × (atLast (λ a. atFirst (λ b. turned (placeOf pl) k (room i) a b) (starsOf j .list (next k) i)) (starsOf j .list k i) ≡ true)
-        halves k i e = and-parts (abuts (placeOf pl) k (starsOf j .list k i)) (atLast (λ a. atFirst (λ b. turned (placeOf pl) k (room i) a b) (starsOf j .list (next k) i)) (starsOf j .list k i)) e
+            → (abuts (placeOf pl) k (starsOf j .list k i) ≡ true)
+            × (atLast (λ a. atFirst (λ b. turned (placeOf pl) k (room i) a b) (starsOf j .list (next k) i)) (starsOf j .list k i) ≡ true)
+        halves k i e = and-parts (abuts (placeOf pl) k (starsOf j .list k i))
+            (atLast (λ a. atFirst (λ b. turned (placeOf pl) k (room i) a b) (starsOf j .list (next k) i)) (starsOf j .list k i)) e
 
     -- what is local passes
     local-near : Local (starsOf j) (placeOf pl) → near j pl ≡ true
     unfolding near sideOk starsOf
     local-near l =
-        rw (mem-all (λ i. all (sideOk (starsOf j) (placeOf pl) i) sides) (upFrom 0 (length j)) (λ i m. mem-all (sideOk (starsOf j) (placeOf pl) i) sides (λ k n. each k i (omega (arith, mem-upFrom 0 (length j) i m)))))
+        rw (mem-all (λ i. all (sideOk (starsOf j) (placeOf pl) i) sides) (upFrom 0 (length j)) (λ i m. mem-all (sideOk (starsOf j) (placeOf pl) i) sides
+        (λ k n. each k i (omega (arith, mem-upFrom 0 (length j) i m)))))
         (eq-eqb (total (length j) one) 1 counted)
       where
         each : (k : Side) (i : ℕ) → i < length j → sideOk (starsOf j) (placeOf pl) i k ≡ true
         each k i h =
             rw (linked-abuts (placeOf pl) k (starsOf j .list k i) (l .linked k i h))
-            (test-last _ _ (starsOf j .list k i) (λ a x. test-first _ _ (starsOf j .list (next k) i) (λ b y. turns-turned (placeOf pl) k (room i) a b y) x) (l .turns k i h))
+            (test-last _ _ (starsOf j .list k i) (λ a x. test-first _ _ (starsOf j .list (next k) i) (λ b y. turns-turned (placeOf pl) k (room i) a b y)
+            x) (l .turns k i h))
 
         counted : total (length j) one ≡ 1
         counted =
@@ -205,7 +221,8 @@ module _ (j : Job) (ok : Passes j) where
             total-one (length j) i one (b .0) (true-one i (of-base i b)) (λ k h d. false-one k (λ e. d (l .base-one k i (base-of k h e) b)))
 
   -- THE LOCAL TEST GIVES THE DRAWING TEST'S ANSWER
-  pub near-drawable : 0 < length j → (f h : ℕ → ℕ) → Numbers (rules upright j) f → Numbers (rules level j) h → near j (planOf j f h) ≡ drawable j (planOf j f h)
+  pub near-drawable : 0 < length j → (f h : ℕ → ℕ) → Numbers (rules upright j) f → Numbers (rules level j) h
+      → near j (planOf j f h) ≡ drawable j (planOf j f h)
   near-drawable some-room f h nf nh = same-test (near j p) (drawable j p) forth back
     where
       p : Plan

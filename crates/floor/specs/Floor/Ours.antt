@@ -1,17 +1,17 @@
 -- The plan by wall numbers: complete, framed, inside the sheet, and every contact met on its side. Assumes nothing.
 use mathlib.Core.Path.{_≡_, refl, sym, ap, _∙_}
 use mathlib.Core.Logic.{_⊎_, inl, inr}
-use mathlib.Core.List.{List, [], _∷_, map, List·Memᴰ}
-use Prim.Native.Nat.{ℕ, zero, suc, _+_, _-_, _*_, _≤_, _<_, max}
+use mathlib.Core.List.{[], List·Memᴰ}
+use Prim.Native.Nat.{ℕ, zero, suc, _+_, _-_, _≤_, _<_, max}
 use native.Mathlib.Omega.{arith}
 use lib.ListN.{length, getD, length-map}
 use Rattle.floor.specs.Lists.Laws.{getD-upFrom, length-upFrom}
-use Rattle.floor.specs.Jobs.{Entry, Job, Vertex, listOf, rooms}
+use Rattle.floor.specs.Jobs.{Entry, Job, Vertex, rooms}
 use Rattle.floor.specs.Jobs.Facts.{Passes}
-use Rattle.floor.specs.Walls.{Numbers, Respects, Axis, upright, level, low, high, rules}
+use Rattle.floor.specs.Walls.{Numbers, Axis, upright, level, low, high, rules}
 use Rattle.floor.specs.Walls.Walk.{numbers-positive, numbers-respects}
 use Rattle.floor.specs.Walls.Rules.{Obeys, obeys-respects, respects-obeys, to-vertex, job-bound, numbers-least}
-use Rattle.floor.specs.Plans.{Rect, Plan, nowhere, rectOf, roomRect, planOf}
+use Rattle.floor.specs.Plans.{Plan, nowhere, rectOf, roomRect, planOf}
 use Rattle.floor.specs.Floor.{Wall, Stands, Complete, Framed, Inside}
 use Rattle.floor.specs.Floor.Sides.{Side, up, left, down, right, opp, Piece, side, room, size, Known, Contact, Meets, Fits}
 use Rattle.floor.specs.Floor.Whole.{flip, frame-meets}
@@ -64,12 +64,14 @@ module _ (j : Job) (ok : Passes j) (w : Way j) where
   from-first i h = lowest (f (low (4 + i))) i (omega arith) h
 
   -- no room reaches past the last frame side, by the walk towards it
-  one-ahead : (i : ℕ) → i < length j → ((r : ℕ) → r < length j → f (high (4 + i)) < f (high (4 + r)) → f (high (4 + r)) ≤ f (low (num k))) → f (high (4 + i)) ≤ f (low (num k))
+  one-ahead : (i : ℕ) → i < length j → ((r : ℕ) → r < length j → f (high (4 + i)) < f (high (4 + r)) → f (high (4 + r)) ≤ f (low (num k)))
+      → f (high (4 + i)) ≤ f (low (num k))
   one-ahead i h below =
       let (e, me, ke) = every-kind j ok k i h in
       go e (obeyed .each i h e me .if-far (ke ∙ sym (w .is-far))) (leads j ok k i h e me ke)
     where
-      go : (e : Entry) → f (high (4 + i)) ≡ f (low (e .to)) → (e .to ≡ num k) ⊎ ((r : ℕ) × (r < length j) × (e .to ≡ 4 + r)) → f (high (4 + i)) ≤ f (low (num k))
+      go : (e : Entry) → f (high (4 + i)) ≡ f (low (e .to)) → (e .to ≡ num k) ⊎ ((r : ℕ) × (r < length j) × (e .to ≡ 4 + r))
+          → f (high (4 + i)) ≤ f (low (num k))
       go e q (inl x) = omega (arith, ap (λ v. f (low v)) x)
       go e q (inr (r, hr, x)) =
           let b : f (low (4 + r)) + 1 ≤ f (high (4 + r)) = obeyed .own r hr in
@@ -92,7 +94,12 @@ module _ (j : Job) (ok : Passes j) (w : Way j) where
   -- THE FIRST FRAME SIDE'S WALL IS NUMBER 1: else all numbers could be less
   pub first-one : f (high (num (opp k))) ≡ 1
   first-one =
-      omega (arith, numbers-positive (rules a j) f n (high (num (opp k))), numbers-least a j f g n (λ s. omega arith) (obeys-respects a g j less) (high (num (opp k))))
+      omega (
+        arith,
+        numbers-positive (rules a j) f n (high (num (opp k))),
+        numbers-least a j f g n (λ s. omega arith) (obeys-respects a g j less)
+            (high (num (opp k))),
+      )
     where
       g : ℕ → ℕ
       g s = max 1 (f s + 1 - f (high (num (opp k))))
@@ -104,10 +111,10 @@ module _ (j : Job) (ok : Passes j) (w : Way j) where
           if-far = λ q. ap (λ v. max 1 (v + 1 - f (high (num (opp k))))) (obeyed .each i h e m .if-far q);
           if-near = λ q. ap (λ v. max 1 (v + 1 - f (high (num (opp k))))) (obeyed .each i h e m .if-near q);
           if-cross = λ q l.
-            let z : 4 + (e .to - 4) ≡ e .to = omega arith in
-            let c : f (high (num (opp k))) ≤ f (low (e .to)) = rw z at (from-first (e .to - 4) (omega (arith, to-vertex j ok i h e m))) in
-            let (x, y) = obeyed .each i h e m .if-cross q l in
-            (omega (arith, from-first i h), omega arith);
+              let z : 4 + (e .to - 4) ≡ e .to = omega arith in
+              let c : f (high (num (opp k))) ≤ f (low (e .to)) = rw z at (from-first (e .to - 4) (omega (arith, to-vertex j ok i h e m))) in
+              let (x, y) = obeyed .each i h e m .if-cross q l in
+              (omega (arith, from-first i h), omega arith);
         };
       }
 
@@ -121,7 +128,8 @@ module _ (j : Job) (ok : Passes j) (w : Way j) where
   near-wall i v h m = let (e, me, ke, te) = mem-entry v (getD j i []) (num (opp k)) m in rw (← te) (obeyed .each i h e me .if-near (ke ∙ sym (w .is-near)))
 
   -- and across it, rooms reach over one another
-  pub cross-wall : (c : Side) → a .cross ≡ num c → (i r : ℕ) → i < length j → List·Memᴰ (room r) (starsOf j .list c i) → (f (low (4 + i)) + 1 ≤ f (high (4 + r))) × (f (low (4 + r)) + 1 ≤ f (high (4 + i)))
+  pub cross-wall : (c : Side) → a .cross ≡ num c → (i r : ℕ) → i < length j → List·Memᴰ (room r) (starsOf j .list c i)
+      → (f (low (4 + i)) + 1 ≤ f (high (4 + r))) × (f (low (4 + r)) + 1 ≤ f (high (4 + i)))
   unfolding starsOf
   cross-wall c ec i r h m =
       let (e, me, ke, te) = mem-entry (room r) (getD j i []) (num c) m in
@@ -129,7 +137,8 @@ module _ (j : Job) (ok : Passes j) (w : Way j) where
 
 -- BOTH DIRECTIONS: contacts along w lie on one wall by its numbers, and reach over one another by those of v, the way across;
 -- across, the frame sides span from lo to hi, past every room
-module _ (j : Job) (ok : Passes j) (w v : Way j) (across : v .axis .cross ≡ num (w .to)) (lo hi : ℕ) (from : lo ≤ 1) (past : v .number-of (low (num (v .to))) ≤ hi) where
+module _ (j : Job) (ok : Passes j) (w v : Way j) (across : v .axis .cross ≡ num (w .to)) (lo hi : ℕ) (from : lo ≤ 1)
+    (past : v .number-of (low (num (v .to))) ≤ hi) where
   abbrev along : ℕ → ℕ
   along = w .number-of
 
@@ -151,7 +160,8 @@ module _ (j : Job) (ok : Passes j) (w v : Way j) (across : v .axis .cross ≡ nu
         ends′ = omega (arith, b .own);
       }
 
-  room-frame : (i e : ℕ) → i < length j → along (low (num (w .to))) ≡ e → List·Memᴰ (side (w .to)) (starsOf j .list (w .to) i) → Wall (along (high (4 + i))) (aside (low (4 + i))) (aside (high (4 + i))) e lo hi
+  room-frame : (i e : ℕ) → i < length j → along (low (num (w .to))) ≡ e → List·Memᴰ (side (w .to)) (starsOf j .list (w .to) i)
+      → Wall (along (high (4 + i))) (aside (low (4 + i))) (aside (high (4 + i))) e lo hi
   room-frame i e h q m =
       let a : Lies j ok v i = lies j ok v i h in
       record {
@@ -163,7 +173,8 @@ module _ (j : Job) (ok : Passes j) (w v : Way j) (across : v .axis .cross ≡ nu
         ends′ = omega (arith, a .own, a .last);
       }
 
-  frame-room : (r : ℕ) → r < length j → List·Memᴰ (side (opp (w .to))) (starsOf j .list (opp (w .to)) r) → Wall 1 lo hi (along (low (4 + r))) (aside (low (4 + r))) (aside (high (4 + r)))
+  frame-room : (r : ℕ) → r < length j → List·Memᴰ (side (opp (w .to))) (starsOf j .list (opp (w .to)) r)
+      → Wall 1 lo hi (along (low (4 + r))) (aside (low (4 + r))) (aside (high (4 + r)))
   frame-room r h m =
       let a : Lies j ok v r = lies j ok v r h in
       record {
@@ -235,17 +246,37 @@ module _ (j : Job) (ok : Passes j) (some-room : 0 < length j) (f g : ℕ → ℕ
   room-inside i h =
       let x : Lies j ok along-x i = x-lies i h in
       let y : Lies j ok along-y i = y-lies i h in
-      rw (room-rect j f g i h) (record { wide = omega (arith, x .own); tall = omega (arith, y .own); in-width = omega (arith, x .last); in-height = omega (arith, y .last) })
+      rw (room-rect j f g i h) (record {
+        wide = omega (arith, x .own);
+        tall = omega (arith, y .own);
+        in-width = omega (arith, x .last);
+        in-height = omega (arith, y .last);
+      })
 
   -- every rectangle has at least a cell and lies inside the sheet
   pub plan-inside : (v : ℕ) → Vertex j v → Inside p (rectOf p v)
   plan-inside v h = go v h (x-lies 0 some-room) (y-lies 0 some-room)
     where
       go : (v : ℕ) → Vertex j v → Lies j ok along-x 0 → Lies j ok along-y 0 → Inside p (rectOf p v)
-      go zero h x y = unfold planOf rectOf in record { wide = omega (arith, x .first, x .own, x .last); tall = omega arith; in-width = omega arith; in-height = omega arith }
+      go zero h x y = unfold planOf rectOf in record {
+        wide = omega (arith, x .first, x .own, x .last);
+        tall = omega arith;
+        in-width = omega arith;
+        in-height = omega arith;
+      }
       go (suc zero) h x y = unfold planOf rectOf in record { wide = omega arith; tall = omega arith; in-width = omega arith; in-height = omega arith }
-      go (suc (suc zero)) h x y = unfold planOf rectOf in record { wide = omega (arith, x .first, x .own, x .last); tall = omega arith; in-width = omega arith; in-height = omega arith }
-      go (suc (suc (suc zero))) h x y = unfold planOf rectOf in record { wide = omega arith; tall = omega arith; in-width = omega arith; in-height = omega arith }
+      go (suc (suc zero)) h x y = unfold planOf rectOf in record {
+        wide = omega (arith, x .first, x .own, x .last);
+        tall = omega arith;
+        in-width = omega arith;
+        in-height = omega arith;
+      }
+      go (suc (suc (suc zero))) h x y = unfold planOf rectOf in record {
+        wide = omega arith;
+        tall = omega arith;
+        in-width = omega arith;
+        in-height = omega arith;
+      }
       go (suc (suc (suc (suc i)))) h x y =
           let e : 4 + i ≡ suc (suc (suc (suc i))) = omega arith in
           rw e at (room-inside i (omega arith))
@@ -261,23 +292,28 @@ module _ (j : Job) (ok : Passes j) (some-room : 0 < length j) (f g : ℕ → ℕ
   unfolding placeOf reach planOf rectOf
   gap = let y : Lies j ok along-y 0 = y-lies 0 some-room in omega (arith, y .first, y .own, y .last)
 
-  stand : (k : Side) (u v : Piece) → Known (starsOf j) u → Known (starsOf j) v → Stands (num k) (rectOf p (number u)) (rectOf p (number v)) → Meets (placeOf p) k u v
+  stand : (k : Side) (u v : Piece) → Known (starsOf j) u → Known (starsOf j) v → Stands (num k) (rectOf p (number u)) (rectOf p (number v))
+      → Meets (placeOf p) k u v
   stand = stands-meets j p plan-inside
 
   frames : (k t r : Side) → Contact (starsOf j) k (side t) (side r) → Meets (placeOf p) k (side t) (side r)
-  frames = frame-meets (starsOf j) (placeOf p) (framed-shape p (plan-framed j f g) (plan-inside 1 (omega arith)) (plan-inside 3 (omega arith))) (inside-place j p plan-inside) (thick-place j p plan-inside) gap
+  frames = frame-meets (starsOf j) (placeOf p) (framed-shape p (plan-framed j f g) (plan-inside 1 (omega arith)) (plan-inside 3 (omega arith)))
+      (inside-place j p plan-inside) (thick-place j p plan-inside) gap
 
   meets-right : (u v : Piece) → Known (starsOf j) u → Known (starsOf j) v → Contact (starsOf j) right u v → Meets (placeOf p) right u v
   unfolding planOf rectOf roomRect starsOf
   meets-right (room i) (room r) hu hv m =
-      stand right (room i) (room r) hu hv (rw (room-rect j f g i hu, room-rect j f g r hv) (room-room j ok along-x along-y refl 0 (g (low 0) + 1) (omega arith) (omega arith) i r hu hv m))
+      stand right (room i) (room r) hu hv (rw (room-rect j f g i hu, room-rect j f g r hv) (room-room j ok along-x along-y refl 0 (g (low 0) + 1)
+      (omega arith) (omega arith) i r hu hv m))
   meets-right (room i) (side t) hu hv m =
-      rw e (stand right (room i) (side right) hu tt (rw (room-rect j f g i hu) (room-frame j ok along-x along-y refl 0 (g (low 0) + 1) (omega arith) (omega arith) i (f (low 3) + 1 - 1) hu (omega arith) (rw e at m))))
+      rw e (stand right (room i) (side right) hu tt (rw (room-rect j f g i hu) (room-frame j ok along-x along-y refl 0 (g (low 0) + 1) (omega arith)
+      (omega arith) i (f (low 3) + 1 - 1) hu (omega arith) (rw e at m))))
     where
       e : t ≡ right
       e = lawful j ok .known right i (side t) hu m
   meets-right (side t) (room r) hu hv m =
-      rw e (stand right (side left) (room r) tt hv (rw (room-rect j f g r hv) (frame-room j ok along-x along-y refl 0 (g (low 0) + 1) (omega arith) (omega arith) r hv (rw e at m))))
+      rw e (stand right (side left) (room r) tt hv (rw (room-rect j f g r hv) (frame-room j ok along-x along-y refl 0 (g (low 0) + 1) (omega arith)
+      (omega arith) r hv (rw e at m))))
     where
       e : t ≡ left
       e = lawful j ok .known left r (side t) hv m
@@ -286,14 +322,17 @@ module _ (j : Job) (ok : Passes j) (some-room : 0 < length j) (f g : ℕ → ℕ
   meets-up : (u v : Piece) → Known (starsOf j) u → Known (starsOf j) v → Contact (starsOf j) up u v → Meets (placeOf p) up u v
   unfolding planOf rectOf roomRect starsOf
   meets-up (room i) (room r) hu hv m =
-      stand up (room i) (room r) hu hv (rw (room-rect j f g i hu, room-rect j f g r hv) (room-room j ok along-y along-x refl 1 (f (low 3) + 1 - 1) (omega arith) (omega arith) i r hu hv m))
+      stand up (room i) (room r) hu hv (rw (room-rect j f g i hu, room-rect j f g r hv) (room-room j ok along-y along-x refl 1 (f (low 3) + 1 - 1)
+      (omega arith) (omega arith) i r hu hv m))
   meets-up (room i) (side t) hu hv m =
-      rw e (stand up (room i) (side up) hu tt (rw (room-rect j f g i hu) (room-frame j ok along-y along-x refl 1 (f (low 3) + 1 - 1) (omega arith) (omega arith) i (g (low 0) + 1 - 1) hu (omega arith) (rw e at m))))
+      rw e (stand up (room i) (side up) hu tt (rw (room-rect j f g i hu) (room-frame j ok along-y along-x refl 1 (f (low 3) + 1 - 1) (omega arith)
+      (omega arith) i (g (low 0) + 1 - 1) hu (omega arith) (rw e at m))))
     where
       e : t ≡ up
       e = lawful j ok .known up i (side t) hu m
   meets-up (side t) (room r) hu hv m =
-      rw e (stand up (side down) (room r) tt hv (rw (room-rect j f g r hv) (frame-room j ok along-y along-x refl 1 (f (low 3) + 1 - 1) (omega arith) (omega arith) r hv (rw e at m))))
+      rw e (stand up (side down) (room r) tt hv (rw (room-rect j f g r hv) (frame-room j ok along-y along-x refl 1 (f (low 3) + 1 - 1) (omega arith)
+      (omega arith) r hv (rw e at m))))
     where
       e : t ≡ down
       e = lawful j ok .known down r (side t) hv m

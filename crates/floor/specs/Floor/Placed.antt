@@ -1,21 +1,22 @@
 -- A plan as a placement: how far each side of each rectangle reaches; and what walls, cells and the order are by it. Assumes nothing.
 use mathlib.Core.Path.{_≡_, refl, sym, ap, _∙_}
-use mathlib.Core.Logic.{_⊎_, inl, inr}
+use mathlib.Core.Logic.{inl, inr}
 use mathlib.Core.Bool.{Bool, true, false, cond}
-use mathlib.Core.List.{List, [], _∷_, map, List·Memᴰ, List·Memᴰ·head, List·Memᴰ·tail}
-use Prim.Native.Nat.{ℕ, suc, _+_, _-_, _≤_, _<_, max}
+use mathlib.Core.List.{[], _∷_, map, List·Memᴰ, List·Memᴰ·head, List·Memᴰ·tail}
+use Prim.Native.Nat.{ℕ, _+_, _-_, _≤_, _<_, max}
 use native.Mathlib.Omega.{arith}
 use lib.Dec.{eqb}
-use lib.ListN.{length}
 use borrow.Author.Tests.{eqb-true, eq-eqb}
 use Rattle.floor.specs.Lists.{keep}
 use Rattle.floor.specs.Jobs.{Entry, Star, Job, Vertex, listOf}
 use Rattle.floor.specs.Plans.{Rect, Plan, rectOf}
 use Rattle.floor.specs.Floor.{Cell, Point, Stands, Onward, Earlier, here, there, Framed, Inside}
-use Rattle.floor.specs.Floor.Sides.{Side, up, left, down, right, next, opp, prev, around, Piece, Place, size, Known, Meets, Tile, In, Ordered, Precedes, Shape}
+use Rattle.floor.specs.Floor.Sides.{Side, up, left, down, right, next, opp, prev, around, Piece, Place, size, Known, Meets, Tile, In, Ordered, Precedes}
+use Rattle.floor.specs.Floor.Sides.{Shape}
 use Rattle.floor.specs.Floor.Cover.{turn, turn-in, turn-out}
 use Rattle.floor.specs.Floor.Four.{Knot, On}
-use Rattle.floor.specs.Floor.Read.{num, number, piece, number-piece, piece-number, kind-side, starsOf, known-vertex, known-piece, number-same, mem-entry, entry-mem}
+use Rattle.floor.specs.Floor.Read.{num, number, piece, number-piece, piece-number, kind-side, starsOf, known-vertex, known-piece, number-same}
+use Rattle.floor.specs.Floor.Read.{mem-entry, entry-mem}
 
 -- how far side k of a piece reaches, from the opposite edge of the sheet
 unfoldable pub reach : Plan → Side → Piece → ℕ
@@ -74,17 +75,36 @@ module _ (j : Job) (p : Plan) (ins : (v : ℕ) → Vertex j v → Inside p (rect
   thick-place down v h = let i : Inside p (rectOf p (number v)) = inside-of v h in omega (arith, i .tall, i .in-height)
 
   -- WALLS: who stands on a side meets there, and the other way
-  pub stands-meets : (k : Side) (u v : Piece) → Known (starsOf j) u → Known (starsOf j) v → Stands (num k) (rectOf p (number u)) (rectOf p (number v)) → Meets (placeOf p) k u v
+  pub stands-meets : (k : Side) (u v : Piece) → Known (starsOf j) u → Known (starsOf j) v → Stands (num k) (rectOf p (number u)) (rectOf p (number v))
+      → Meets (placeOf p) k u v
   unfolding placeOf reach
   stands-meets k u v hu hv = go k (inside-of u hu) (inside-of v hv)
     where
-      go : (k : Side) → Inside p (rectOf p (number u)) → Inside p (rectOf p (number v)) → Stands (num k) (rectOf p (number u)) (rectOf p (number v)) → Meets (placeOf p) k u v
-      go up i h w = record { touch = omega (arith, w .line, h .tall, h .in-height); ahead = omega (arith, w .starts, w .ends′, i .wide, i .in-width); behind = omega (arith, w .ends, w .starts′, h .wide, h .in-width) }
-      go left i h w = record { touch = omega (arith, w .line, i .wide, i .in-width); ahead = omega (arith, w .starts′, w .ends, i .tall, i .in-height); behind = omega (arith, w .ends′, w .starts, h .tall, h .in-height) }
-      go down i h w = record { touch = omega (arith, w .line, i .tall, i .in-height); ahead = omega (arith, w .ends′, w .starts, h .wide, h .in-width); behind = omega (arith, w .starts′, w .ends, i .wide, i .in-width) }
-      go right i h w = record { touch = omega (arith, w .line, h .wide, h .in-width); ahead = omega (arith, w .ends, w .starts′, h .tall, h .in-height); behind = omega (arith, w .starts, w .ends′, i .tall, i .in-height) }
+      go : (k : Side) → Inside p (rectOf p (number u)) → Inside p (rectOf p (number v)) → Stands (num k) (rectOf p (number u)) (rectOf p (number v))
+          → Meets (placeOf p) k u v
+      go up i h w = record {
+        touch = omega (arith, w .line, h .tall, h .in-height);
+        ahead = omega (arith, w .starts, w .ends′, i .wide, i .in-width);
+        behind = omega (arith, w .ends, w .starts′, h .wide, h .in-width);
+      }
+      go left i h w = record {
+        touch = omega (arith, w .line, i .wide, i .in-width);
+        ahead = omega (arith, w .starts′, w .ends, i .tall, i .in-height);
+        behind = omega (arith, w .ends′, w .starts, h .tall, h .in-height);
+      }
+      go down i h w = record {
+        touch = omega (arith, w .line, i .tall, i .in-height);
+        ahead = omega (arith, w .ends′, w .starts, h .wide, h .in-width);
+        behind = omega (arith, w .starts′, w .ends, i .wide, i .in-width);
+      }
+      go right i h w = record {
+        touch = omega (arith, w .line, h .wide, h .in-width);
+        ahead = omega (arith, w .ends, w .starts′, h .tall, h .in-height);
+        behind = omega (arith, w .starts, w .ends′, i .tall, i .in-height);
+      }
 
-  pub meets-stands : (k : Side) (u v : Piece) → Known (starsOf j) u → Known (starsOf j) v → Meets (placeOf p) k u v → Stands (num k) (rectOf p (number u)) (rectOf p (number v))
+  pub meets-stands : (k : Side) (u v : Piece) → Known (starsOf j) u → Known (starsOf j) v → Meets (placeOf p) k u v
+      → Stands (num k) (rectOf p (number u)) (rectOf p (number v))
   unfolding placeOf reach
   meets-stands k u v hu hv = go k (inside-of u hu) (inside-of v hv)
     where
@@ -94,40 +114,87 @@ module _ (j : Job) (p : Plan) (ins : (v : ℕ) → Vertex j v → Inside p (rect
       s : Rect
       s = rectOf p (number v)
 
-      go : (k : Side) → Inside p (rectOf p (number u)) → Inside p (rectOf p (number v)) → Meets (placeOf p) k u v → Stands (num k) (rectOf p (number u)) (rectOf p (number v))
-      go up i h m = record { line = omega (arith, m .touch, h .tall, h .in-height); c = max (r .x1) (s .x1); starts = omega arith; ends = omega (arith, m .behind, i .wide, h .wide, i .in-width); starts′ = omega arith; ends′ = omega (arith, m .ahead, i .wide, h .wide, h .in-width) }
-      go down i h m = record { line = omega (arith, m .touch, i .tall, i .in-height); c = max (r .x1) (s .x1); starts = omega arith; ends = omega (arith, m .behind, i .wide, h .wide, h .in-width); starts′ = omega arith; ends′ = omega (arith, m .ahead, i .wide, h .wide, i .in-width) }
-      go left i h m = record { line = omega (arith, m .touch, i .wide, i .in-width); c = max (r .y1) (s .y1); starts = omega arith; ends = omega (arith, m .ahead, i .tall, h .tall, h .in-height); starts′ = omega arith; ends′ = omega (arith, m .behind, i .tall, h .tall, i .in-height) }
-      go right i h m = record { line = omega (arith, m .touch, h .wide, h .in-width); c = max (r .y1) (s .y1); starts = omega arith; ends = omega (arith, m .ahead, i .tall, h .tall, i .in-height); starts′ = omega arith; ends′ = omega (arith, m .behind, i .tall, h .tall, h .in-height) }
+      go : (k : Side) → Inside p (rectOf p (number u)) → Inside p (rectOf p (number v)) → Meets (placeOf p) k u v
+          → Stands (num k) (rectOf p (number u)) (rectOf p (number v))
+      go up i h m = record {
+        line = omega (arith, m .touch, h .tall, h .in-height);
+        c = max (r .x1) (s .x1);
+        starts = omega arith;
+        ends = omega (arith, m .behind, i .wide, h .wide, i .in-width);
+        starts′ = omega arith;
+        ends′ = omega (arith, m .ahead, i .wide, h .wide, h .in-width);
+      }
+      go down i h m = record {
+        line = omega (arith, m .touch, i .tall, i .in-height);
+        c = max (r .x1) (s .x1);
+        starts = omega arith;
+        ends = omega (arith, m .behind, i .wide, h .wide, h .in-width);
+        starts′ = omega arith;
+        ends′ = omega (arith, m .ahead, i .wide, h .wide, i .in-width);
+      }
+      go left i h m = record {
+        line = omega (arith, m .touch, i .wide, i .in-width);
+        c = max (r .y1) (s .y1);
+        starts = omega arith;
+        ends = omega (arith, m .ahead, i .tall, h .tall, h .in-height);
+        starts′ = omega arith;
+        ends′ = omega (arith, m .behind, i .tall, h .tall, i .in-height);
+      }
+      go right i h m = record {
+        line = omega (arith, m .touch, h .wide, h .in-width);
+        c = max (r .y1) (s .y1);
+        starts = omega arith;
+        ends = omega (arith, m .ahead, i .tall, h .tall, i .in-height);
+        starts′ = omega arith;
+        ends′ = omega (arith, m .behind, i .tall, h .tall, h .in-height);
+      }
 
   -- CELLS, seen towards the left
   cell-in : (x : Tile (placeOf p) left) (v : Piece) → Known (starsOf j) v → Cell (rectOf p (number v)) (x .c) (x .d) → In (placeOf p) left x v
   unfolding placeOf reach
   cell-in x v h m =
       let i : Inside p (rectOf p (number v)) = inside-of v h in
-      record { ina = omega (arith, m .left, x .ac, i .wide, i .in-width); inb = omega (arith, m .lower, x .bd, i .tall, i .in-height); inc = m .right; ind = m .upper }
+      record {
+        ina = omega (arith, m .left, x .ac, i .wide, i .in-width);
+        inb = omega (arith, m .lower, x .bd, i .tall, i .in-height);
+        inc =
+            m .right;
+        ind = m .upper;
+      }
 
   pub in-cell : (x : Tile (placeOf p) left) (v : Piece) → In (placeOf p) left x v → Cell (rectOf p (number v)) (x .c) (x .d)
   unfolding placeOf reach
   in-cell x v m = record { left = omega (arith, m .ina, x .ac); right = m .inc; lower = omega (arith, m .inb, x .bd); upper = m .ind }
 
-  pub cell-at : (x y n : ℕ) → Vertex j n → (hx : x < p .width) (hy : y < p .height) → Cell (rectOf p n) x y → In (placeOf p) left (tile-at p x y hx hy) (piece n)
+  pub cell-at : (x y n : ℕ) → Vertex j n → (hx : x < p .width) (hy : y < p .height) → Cell (rectOf p n) x y
+      → In (placeOf p) left (tile-at p x y hx hy) (piece n)
   unfolding tile-at
   cell-at x y n h hx hy m = cell-in (tile-at p x y hx hy) (piece n) (known-piece j n h) (rw (number-piece n) m)
 
   -- POINTS
   pub point-at : (x y n : ℕ) → (hx : x ≤ p .width) (hy : y ≤ p .height) → Point (rectOf p n) x y → On (placeOf p) left (knot-at p x y hx hy) (piece n)
   unfolding knot-at placeOf reach
-  point-at x y n hx hy m = record { ona = rw (number-piece n) (omega (arith, m .left)); onb = rw (number-piece n) (omega (arith, m .lower)); onc = rw (number-piece n) (m .right); ond = rw (number-piece n) (m .upper) }
+  point-at x y n hx hy m = record {
+    ona = rw (number-piece n) (omega (arith, m .left));
+    onb = rw (number-piece n) (omega (arith, m .lower));
+    onc = rw (number-piece n) (m .right);
+    ond = rw (number-piece n) (m .upper);
+  }
 
   pub on-point : (x : Knot (placeOf p) left) (v : Piece) → On (placeOf p) left x v → Known (starsOf j) v → Point (rectOf p (number v)) (x .c) (x .d)
   unfolding placeOf reach
   on-point x v m h =
       let i : Inside p (rectOf p (number v)) = inside-of v h in
-      record { left = omega (arith, m .ona, x .ac, i .wide, i .in-width); right = m .onc; lower = omega (arith, m .onb, x .bd, i .tall, i .in-height); upper = m .ond }
+      record {
+        left = omega (arith, m .ona, x .ac, i .wide, i .in-width);
+        right = m .onc;
+        lower = omega (arith, m .onb, x .bd, i .tall, i .in-height);
+        upper = m .ond;
+      }
 
   -- EVERY CELL IN SOME, AND IN NO TWO, in every direction
-  pub cover-place : ((x y : ℕ) → x < p .width → y < p .height → (v : ℕ) × Vertex j v × Cell (rectOf p v) x y) → (k : Side) (x : Tile (placeOf p) k) → (v : Piece) × Known (starsOf j) v × In (placeOf p) k x v
+  pub cover-place : ((x y : ℕ) → x < p .width → y < p .height → (v : ℕ) × Vertex j v × Cell (rectOf p v) x y) → (k : Side) (x : Tile (placeOf p) k)
+      → (v : Piece) × Known (starsOf j) v × In (placeOf p) k x v
   unfolding placeOf
   cover-place covered =
       around (λ k. (x : Tile (placeOf p) k) → (v : Piece) × Known (starsOf j) v × In (placeOf p) k x v)
@@ -141,7 +208,8 @@ module _ (j : Job) (p : Plan) (ins : (v : ℕ) → Vertex j v → Inside p (rect
   alone-place once =
       around (λ k. (x : Tile (placeOf p) k) (u v : Piece) → Known (starsOf j) u → Known (starsOf j) v → In (placeOf p) k x u → In (placeOf p) k x v → u ≡ v)
       (λ k below x u v hu hv m n. below (turn x) u v hu hv (turn-in x m) (turn-in x n))
-      (λ x u v hu hv m n. number-same u v (once (x .c) (x .d) (number u) (number v) (known-vertex j u hu) (known-vertex j v hv) (in-cell x u m) (in-cell x v n)))
+      (λ x u v hu hv m n. number-same u v (once (x .c) (x .d) (number u) (number v) (known-vertex j u hu) (known-vertex j v hv) (in-cell x u m)
+      (in-cell x v n)))
 
   -- THE ORDER of one list, and of a star
   pub onward-precedes : (k : Side) (a b : ℕ) → Vertex j a → Vertex j b → Onward (num k) (rectOf p a) (rectOf p b) → Precedes (placeOf p) k (piece a) (piece b)
@@ -151,14 +219,16 @@ module _ (j : Job) (p : Plan) (ins : (v : ℕ) → Vertex j v → Inside p (rect
   onward-precedes down a b ha hb e = inr (rw (number-piece a, number-piece b) (omega (arith, ins b hb .wide, ins b hb .in-width)))
   onward-precedes right a b ha hb e = inr (rw (number-piece a, number-piece b) (omega (arith, ins b hb .tall, ins b hb .in-height)))
 
-  pub order-lists : (k : Side) (s : Star) → ((e : Entry) → List·Memᴰ e s → Vertex j (e .to)) → ((d e : Entry) → Earlier d e s → d .kind ≡ e .kind → Onward (d .kind) (rectOf p (d .to)) (rectOf p (e .to)))
+  pub order-lists : (k : Side) (s : Star) → ((e : Entry) → List·Memᴰ e s → Vertex j (e .to)) → ((d e : Entry) → Earlier d e s → d .kind ≡ e .kind
+      → Onward (d .kind) (rectOf p (d .to)) (rectOf p (e .to)))
       → Ordered (Precedes (placeOf p) k) (map piece (listOf s (num k)))
   unfolding listOf keep
   order-lists k [] h o = tt
   order-lists k (d ∷ s) h o = go (eqb (d .kind) (num k)) refl (order-lists k s (λ e m. h e (List·Memᴰ·tail m)) (λ c e x. o c e (there x)))
     where
       go : (b : Bool) → eqb (d .kind) (num k) ≡ b → Ordered (Precedes (placeOf p) k) (map piece (map (λ e. e .to) (keep (λ e. eqb (e .kind) (num k)) s)))
-          → Ordered (Precedes (placeOf p) k) (map piece (map (λ e. e .to) (cond b (d ∷ keep (λ e. eqb (e .kind) (num k)) s) (keep (λ e. eqb (e .kind) (num k)) s))))
+          → Ordered (Precedes (placeOf p) k)
+          (map piece (map (λ e. e .to) (cond b (d ∷ keep (λ e. eqb (e .kind) (num k)) s) (keep (λ e. eqb (e .kind) (num k)) s))))
       go false e below = below
       go true e below = (λ w m. first w (mem-entry w s (num k) m), below)
         where
@@ -167,7 +237,8 @@ module _ (j : Job) (p : Plan) (ins : (v : ℕ) → Vertex j v → Inside p (rect
 
           first : (w : Piece) → (e : Entry) × List·Memᴰ e s × (e .kind ≡ num k) × (e .to ≡ number w) → Precedes (placeOf p) k (piece (d .to)) w
           first w (e, me, ke, te) =
-              let x : Precedes (placeOf p) k (piece (d .to)) (piece (e .to)) = onward-precedes k (d .to) (e .to) (h d (List·Memᴰ·head refl)) (h e (List·Memᴰ·tail me)) (rw kd at (o d e (here me) (kd ∙ sym ke))) in
+              let x : Precedes (placeOf p) k (piece (d .to)) (piece (e .to)) = onward-precedes k (d .to) (e .to) (h d (List·Memᴰ·head refl))
+              (h e (List·Memᴰ·tail me)) (rw kd at (o d e (here me) (kd ∙ sym ke))) in
               rw (ap piece te ∙ piece-number w) at x
 
 -- the order of a list, on both ends of each rectangle
@@ -176,25 +247,32 @@ Strict p k v w = (placeOf p .at (next k) v < placeOf p .at (next k) w) × (place
 
 strict-onward : (p : Plan) (k : Side) (a b : ℕ) → Strict p k (piece a) (piece b) → Onward (num k) (rectOf p a) (rectOf p b)
 unfolding placeOf reach
-strict-onward p up a b e = let f : p .width - rectOf p (number (piece a)) .x1 < p .width - rectOf p (number (piece b)) .x1 = e .0 in omega (arith, rw (number-piece a, number-piece b) at f)
-strict-onward p left a b e = let f : p .height - rectOf p (number (piece a)) .y1 < p .height - rectOf p (number (piece b)) .y1 = e .0 in omega (arith, rw (number-piece a, number-piece b) at f)
-strict-onward p down a b e = let f : p .width - rectOf p (number (piece b)) .x1 < p .width - rectOf p (number (piece a)) .x1 = e .1 in omega (arith, rw (number-piece a, number-piece b) at f)
-strict-onward p right a b e = let f : p .height - rectOf p (number (piece b)) .y1 < p .height - rectOf p (number (piece a)) .y1 = e .1 in omega (arith, rw (number-piece a, number-piece b) at f)
+strict-onward p up a b e = let f : p .width - rectOf p (number (piece a)) .x1 < p .width - rectOf p (number (piece b)) .x1 =
+    e .0 in omega (arith, rw (number-piece a, number-piece b) at f)
+strict-onward p left a b e = let f : p .height - rectOf p (number (piece a)) .y1 < p .height - rectOf p (number (piece b)) .y1 =
+    e .0 in omega (arith, rw (number-piece a, number-piece b) at f)
+strict-onward p down a b e = let f : p .width - rectOf p (number (piece b)) .x1 < p .width - rectOf p (number (piece a)) .x1 =
+    e .1 in omega (arith, rw (number-piece a, number-piece b) at f)
+strict-onward p right a b e = let f : p .height - rectOf p (number (piece b)) .y1 < p .height - rectOf p (number (piece a)) .y1 =
+    e .1 in omega (arith, rw (number-piece a, number-piece b) at f)
 
 pub lists-order : (p : Plan) (s : Star) → ((e : Entry) → List·Memᴰ e s → e .kind < 4) → ((k : Side) → Ordered (Strict p k) (map piece (listOf s (num k))))
     → (d e : Entry) → Earlier d e s → d .kind ≡ e .kind → Onward (d .kind) (rectOf p (d .to)) (rectOf p (e .to))
 unfolding listOf keep
 lists-order p (d ∷ s) n o d′ e (there x) same = lists-order p s (λ e m. n e (List·Memᴰ·tail m)) (λ k. rest k (eqb (d .kind) (num k)) (o k)) d′ e x same
   where
-    rest : (k : Side) (b : Bool) → Ordered (Strict p k) (map piece (map (λ e. e .to) (cond b (d ∷ keep (λ e. eqb (e .kind) (num k)) s) (keep (λ e. eqb (e .kind) (num k)) s))))
+    rest : (k : Side) (b : Bool)
+        → Ordered (Strict p k) (map piece (map (λ e. e .to) (cond b (d ∷ keep (λ e. eqb (e .kind) (num k)) s) (keep (λ e. eqb (e .kind) (num k)) s))))
         → Ordered (Strict p k) (map piece (map (λ e. e .to) (keep (λ e. eqb (e .kind) (num k)) s)))
     rest k true x = x .1
     rest k false x = x
 lists-order p (d ∷ s) n o d′ e (here m) same =
     let (k, w) = kind-side (d .kind) (n d (List·Memᴰ·head refl)) in
-    rw (← w) (strict-onward p k (d .to) (e .to) (first k (eqb (d .kind) (num k)) (eq-eqb (d .kind) (num k) (sym w)) (o k) (piece (e .to)) (entry-mem s (num k) e m (sym same ∙ sym w))))
+    rw (← w) (strict-onward p k (d .to) (e .to) (first k (eqb (d .kind) (num k)) (eq-eqb (d .kind) (num k) (sym w)) (o k) (piece (e .to))
+    (entry-mem s (num k) e m (sym same ∙ sym w))))
   where
-    first : (k : Side) (b : Bool) → b ≡ true → Ordered (Strict p k) (map piece (map (λ e. e .to) (cond b (d ∷ keep (λ e. eqb (e .kind) (num k)) s) (keep (λ e. eqb (e .kind) (num k)) s))))
+    first : (k : Side) (b : Bool) → b ≡ true
+        → Ordered (Strict p k) (map piece (map (λ e. e .to) (cond b (d ∷ keep (λ e. eqb (e .kind) (num k)) s) (keep (λ e. eqb (e .kind) (num k)) s))))
         → (w : Piece) → List·Memᴰ w (map piece (map (λ e. e .to) (keep (λ e. eqb (e .kind) (num k)) s))) → Strict p k (piece (d .to)) w
     first k true z x = x .0
     first k false z x = let z : _≡_ {A = ℕ} 0 1 = cc in absurd (omega arith)

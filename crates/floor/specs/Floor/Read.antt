@@ -2,8 +2,8 @@
 use mathlib.Core.Path.{_≡_, refl, sym, ap, _∙_}
 use mathlib.Core.Logic.{_⊎_, inl, inr}
 use mathlib.Core.Bool.{Bool, true, false, cond}
-use mathlib.Core.List.{List, [], _∷_, map, List·Memᴰ, List·Memᴰ·head, List·Memᴰ·tail}
-use Prim.Native.Nat.{ℕ, zero, suc, _+_, _-_, _≤_, _<_}
+use mathlib.Core.List.{[], _∷_, map, List·Memᴰ, List·Memᴰ·head, List·Memᴰ·tail}
+use Prim.Native.Nat.{ℕ, zero, suc, _+_, _-_, _<_}
 use native.Mathlib.Omega.{arith}
 use native.Mathlib.Decide.{decLt}
 use lib.Dec.{eqb}
@@ -97,7 +97,8 @@ unfolding listOf keep
 mem-entry v [] n m = elim m [ ]
 mem-entry v (e ∷ s) n m = go (eqb (e .kind) n) refl m (mem-entry v s n)
   where
-    go : (b : Bool) → eqb (e .kind) n ≡ b → List·Memᴰ v (map piece (map (λ d. d .to) (cond b (e ∷ keep (λ d. eqb (d .kind) n) s) (keep (λ d. eqb (d .kind) n) s))))
+    go : (b : Bool) → eqb (e .kind) n ≡ b
+        → List·Memᴰ v (map piece (map (λ d. d .to) (cond b (e ∷ keep (λ d. eqb (d .kind) n) s) (keep (λ d. eqb (d .kind) n) s))))
         → (List·Memᴰ v (map piece (map (λ d. d .to) (keep (λ d. eqb (d .kind) n) s))) → (d : Entry) × List·Memᴰ d s × (d .kind ≡ n) × (d .to ≡ number v))
         → (d : Entry) × List·Memᴰ d (e ∷ s) × (d .kind ≡ n) × (d .to ≡ number v)
     go true h (List·Memᴰ·head q) below = (e, List·Memᴰ·head refl, eqb-true (e .kind) n h, sym (number-piece (e .to)) ∙ ap number (sym q))
@@ -136,11 +137,13 @@ module _ (j : Job) (ok : Passes j) where
   -- a room has an entry of every kind
   pub every-kind : (k : Side) (i : ℕ) → i < length j → (e : Entry) × List·Memᴰ e (getD j i []) × (e .kind ≡ num k)
   every-kind k i h =
-      let (e, m, q) = count-some (λ (e : Entry). eqb (e .kind) (num k)) (getD j i []) (rw (star-at j i) at (ok .good (4 + i) (omega arith, omega arith) .has (num k) (omega (arith, few-sides k)))) in
+      let (e, m, q) = count-some (λ (e : Entry). eqb (e .kind) (num k)) (getD j i [])
+      (rw (star-at j i) at (ok .good (4 + i) (omega arith, omega arith) .has (num k) (omega (arith, few-sides k)))) in
       (e, m, eqb-true (e .kind) (num k) q)
 
   -- an entry of side k leads to the frame side k, or to a room
-  pub leads : (k : Side) (i : ℕ) → i < length j → (e : Entry) → List·Memᴰ e (getD j i []) → e .kind ≡ num k → (e .to ≡ num k) ⊎ ((r : ℕ) × (r < length j) × (e .to ≡ 4 + r))
+  pub leads : (k : Side) (i : ℕ) → i < length j → (e : Entry) → List·Memᴰ e (getD j i []) → e .kind ≡ num k
+      → (e .to ≡ num k) ⊎ ((r : ℕ) × (r < length j) × (e .to ≡ 4 + r))
   leads k i h e m ke = go (decLt (e .to) 4)
     where
       go : Dec (e .to < 4) → (e .to ≡ num k) ⊎ ((r : ℕ) × (r < length j) × (e .to ≡ 4 + r))
@@ -158,12 +161,14 @@ module _ (j : Job) (ok : Passes j) where
       go (room i) e te (inr (r, hr, q)) = omega arith
 
   -- room r, listed by room i
-  backed : (k : Side) (i r : ℕ) → i < length j → List·Memᴰ (room r) (map piece (listOf (getD j i []) (num k))) → List·Memᴰ (room i) (map piece (listOf (getD j r []) (num (opp k))))
+  backed : (k : Side) (i r : ℕ) → i < length j → List·Memᴰ (room r) (map piece (listOf (getD j i []) (num k)))
+      → List·Memᴰ (room i) (map piece (listOf (getD j r []) (num (opp k))))
   backed k i r h m = let (e, me, ke, te) = mem-entry (room r) (getD j i []) (num k) m in go e me ke te
     where
       go : (e : Entry) → List·Memᴰ e (getD j i []) → e .kind ≡ num k → e .to ≡ 4 + r → List·Memᴰ (room i) (map piece (listOf (getD j r []) (num (opp k))))
       go e me ke te =
-          let n : List·Memᴰ (entry (4 + i) (opposite (e .kind))) (getD j r []) = rw (te, star-at j r) at (ok .opposed (4 + i) (omega arith, omega arith) e (rw (star-at j i) me) (omega arith)) in
+          let n : List·Memᴰ (entry (4 + i) (opposite (e .kind))) (getD j r []) = rw (te, star-at j r) at (ok .opposed (4 + i) (omega arith, omega arith) e
+          (rw (star-at j i) me) (omega arith)) in
           rw (← (piece-room i)) (entry-mem (getD j r []) (num (opp k)) (entry (4 + i) (opposite (e .kind))) n (ap opposite ke ∙ opposite-num k))
 
   -- TESTS 4 TO 6 MAKE THE STARS LAWFUL

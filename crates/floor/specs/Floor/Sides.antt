@@ -1,9 +1,10 @@
--- Sides, vertices and placements. Each coordinate is read as how far a side reaches, from the opposite edge of the sheet: x2 to the right, width - x1 to the left,
+-- Sides, vertices and placements. Each coordinate is read as how far a side reaches, from the opposite edge of the sheet: x2 to the right, width - x1 to the
+-- left,
 -- y2 upward, height - y1 downward. Then the four sides obey one rule. Assumes nothing.
 use mathlib.Core.Path.{_≡_, refl}
 use mathlib.Core.Logic.{_⊎_}
 use mathlib.Core.List.{List, [], _∷_, List·Memᴰ}
-use Prim.Native.Nat.{ℕ, suc, _+_, _≤_, _<_}
+use Prim.Native.Nat.{ℕ, _+_, _≤_, _<_}
 
 pub data Side : Type 0 where
   up left down right : Side
@@ -155,7 +156,8 @@ pub record Good (s : Stars) (p : Place) : Type 0 where
   pub thick : (k : Side) (v : Piece) → Known s v → size p k < p .at k v + p .at (opp k) v
   pub cover : (k : Side) (x : Tile p k) → (v : Piece) × Known s v × In p k x v
   pub alone : (k : Side) (x : Tile p k) (u v : Piece) → Known s u → Known s v → In p k x u → In p k x v → u ≡ v
-  pub corner : (k : Side) (u v : Piece) → Known s u → Known s v → p .at k u + p .at (opp k) v ≡ size p k → p .at (next k) u + p .at (prev k) v ≡ size p (next k) → ⊥
+  pub corner : (k : Side) (u v : Piece) → Known s u → Known s v → p .at k u + p .at (opp k) v ≡ size p k
+      → p .at (next k) u + p .at (prev k) v ≡ size p (next k) → ⊥
   pub joined : (k : Side) (u v : Piece) → Known s u → Known s v → Meets p k u v → Contact s k u v
   pub meets : (k : Side) (u v : Piece) → Known s u → Known s v → Contact s k u v → Meets p k u v
   pub order : (k : Side) (i : ℕ) → i < s .count → Ordered (Precedes p k) (s .list k i)
@@ -185,7 +187,8 @@ pub record Local (s : Stars) (p : Place) : Type 0 where
 -- what a good plan shows of the job alone: neighbours in a star are joined to one another
 pub record Tri (s : Stars) : Type 0 where
   pub linked : (k : Side) (i : ℕ) → i < s .count → Linked (λ a b. Contact s (next k) a b) (s .list k i)
-  pub turns : (k : Side) (i : ℕ) → i < s .count → AtLast (λ a. AtFirst (λ b. Contact s (next k) a b ⊎ Contact s (opp k) a b) (s .list (next k) i)) (s .list k i)
+  pub turns : (k : Side) (i : ℕ) → i < s .count → AtLast (λ a. AtFirst (λ b. Contact s (next k) a b ⊎ Contact s (opp k) a b) (s .list (next k) i))
+      (s .list k i)
   pub base : (i : ℕ) × Base s i
   pub base-one : (i j : ℕ) → Base s i → Base s j → i ≡ j
 

@@ -1,7 +1,7 @@
 -- The drawing test and good placements: a good plan passes it, and a plan that meets its contacts and passes it is good. Assumes nothing.
-use mathlib.Core.Path.{_≡_, refl, sym, ap, _∙_}
+use mathlib.Core.Path.{_≡_, sym, ap, _∙_}
 use mathlib.Core.Logic.{_⊎_, inl, inr}
-use mathlib.Core.Bool.{Bool, true, false}
+use mathlib.Core.Bool.{true}
 use mathlib.Core.List.{[]}
 use Prim.Native.Nat.{ℕ, _+_, _-_, _≤_, _<_}
 use native.Mathlib.Omega.{arith}
@@ -13,7 +13,7 @@ use Rattle.floor.specs.Plans.{Plan, rectOf, drawable}
 use Rattle.floor.specs.Floor.{Cell, Shares, Joined, ExactlyOne, Complete, Inside, GoodPlan}
 use Rattle.floor.specs.Floor.Sides.{Side, up, left, down, right, next, opp, prev, Piece, side, room, size, Known, Meets, Contact, Fits, Good}
 use Rattle.floor.specs.Floor.Whole.{flip}
-use Rattle.floor.specs.Floor.Read.{num, number, piece, number-piece, few-sides, number-same, starsOf, known-vertex, known-piece, entry-ok}
+use Rattle.floor.specs.Floor.Read.{num, number, piece, number-piece, few-sides, starsOf, known-vertex, known-piece, entry-ok}
 use Rattle.floor.specs.Floor.Joins.{joined-back, joined-contact, side-of}
 use Rattle.floor.specs.Floor.Placed.{reach, placeOf, inside-of, meets-stands, cover-place, alone-place, order-lists}
 use Rattle.floor.specs.Floor.Bridge.{meets-two, plan-good, good-plan, shares-joined}
@@ -40,11 +40,13 @@ module _ (j : Job) (ok : Passes j) (p : Plan) (c : Complete j p) where
 
     once : (x y u v : ℕ) → Vertex j u → Vertex j v → Cell (rectOf p u) x y → Cell (rectOf p v) x y → u ≡ v
     once x y u v hu hv a b =
-        let o : ExactlyOne j p x y = gp .floor .cover x y (omega (arith, a .right, gp .inside u hu .in-width)) (omega (arith, a .upper, gp .inside u hu .in-height)) in
+        let o : ExactlyOne j p x y = gp .floor .cover x y (omega (arith, a .right, gp .inside u hu .in-width))
+        (omega (arith, a .upper, gp .inside u hu .in-height)) in
         o .only u hu a ∙ sym (o .only v hv b)
 
     -- the placement's corner, by rectangles
-    no-corner : (u v : ℕ) → Vertex j u → Vertex j v → Touch (rectOf p u .x1) (rectOf p u .x2) (rectOf p v .x1) (rectOf p v .x2) → Touch (rectOf p u .y1) (rectOf p u .y2) (rectOf p v .y1) (rectOf p v .y2) → ⊥
+    no-corner : (u v : ℕ) → Vertex j u → Vertex j v → Touch (rectOf p u .x1) (rectOf p u .x2) (rectOf p v .x1) (rectOf p v .x2)
+        → Touch (rectOf p u .y1) (rectOf p u .y2) (rectOf p v .y1) (rectOf p v .y2) → ⊥
     unfolding placeOf reach
     no-corner u v hu hv = go
       where
@@ -66,7 +68,8 @@ module _ (j : Job) (ok : Passes j) (p : Plan) (c : Complete j p) where
         tif : (n a b : ℕ) → a ≡ b → b ≤ n → (n - b) + a ≡ n
         tif n a b e l = omega arith
 
-        go : Touch (rectOf p u .x1) (rectOf p u .x2) (rectOf p v .x1) (rectOf p v .x2) → Touch (rectOf p u .y1) (rectOf p u .y2) (rectOf p v .y1) (rectOf p v .y2) → ⊥
+        go : Touch (rectOf p u .x1) (rectOf p u .x2) (rectOf p v .x1) (rectOf p v .x2)
+            → Touch (rectOf p u .y1) (rectOf p u .y2) (rectOf p v .y1) (rectOf p v .y2) → ⊥
         go (inl e) (inl f) =
             g .corner right (piece u) (piece v) ku kv
             (rw (number-piece u, number-piece v) (fit (p .width) (rectOf p u .x2) (rectOf p v .x1) e (omega (arith, iv .wide, iv .in-width))))
@@ -88,7 +91,8 @@ module _ (j : Job) (ok : Passes j) (p : Plan) (c : Complete j p) where
     good-drawable = draws-drawable j p c (record {
       inside = gp .inside;
       apart = λ u v l hv x y a b. omega (arith, once x y u v (omega arith) hv a b);
-      areas = cells-areas (length j + 4) p (c .count) (gp .inside) (λ x y hx hy. let o : ExactlyOne j p x y = gp .floor .cover x y hx hy in (o .one, o .vertex, o .holds)) once;
+      areas = cells-areas (length j + 4) p (c .count) (gp .inside) (λ x y hx hy. let o : ExactlyOne j p x y =
+          gp .floor .cover x y hx hy in (o .one, o .vertex, o .holds)) once;
       shares = λ u v l hv. shares-joined j ok p c g u v (omega arith) hv;
       corners = λ u v l hv. no-corner u v (omega arith) hv;
       order = gp .floor .order;
@@ -163,7 +167,8 @@ module _ (j : Job) (ok : Passes j) (p : Plan) (c : Complete j p) where
       joined = λ k u v hu hv m. side-of (starsOf j) (placeOf p) (ft .thick) (ft .meets) k u v hu hv (some k u v hu hv m) m;
       meets = ft .meets;
       order = λ k i h.
-        order-lists j p (d .inside) k (getD j i []) (λ e m. entry-ok j ok i h e m .below) (λ a b x. d .order (4 + i) (omega arith, omega arith) a b (rw (star-at j i) x));
+          order-lists j p (d .inside) k (getD j i []) (λ e m. entry-ok j ok i h e m .below) (λ a b x. d .order (4 + i) (omega arith, omega arith) a b
+          (rw (star-at j i) x));
     }
 
     pub drawable-plan : GoodPlan j p

@@ -1,11 +1,12 @@
 -- In a local plan the list of a side tiles that side: every cell beside it lies in exactly one entry. Assumes nothing.
-use mathlib.Core.Path.{_≡_, refl, sym, ap, _∙_, subst}
-use mathlib.Core.Logic.{_⊎_, inl, inr}
+use mathlib.Core.Path.{_≡_, refl, sym, _∙_}
+use mathlib.Core.Logic.{inl, inr}
 use mathlib.Core.List.{List, [], _∷_, List·Memᴰ, List·Memᴰ·head, List·Memᴰ·tail}
-use Prim.Native.Nat.{ℕ, zero, suc, _+_, _≤_, _<_}
+use Prim.Native.Nat.{ℕ, _+_, _≤_, _<_}
 use native.Mathlib.Omega.{arith}
-use native.Mathlib.Decide.{decLe, decLt}
-use Rattle.floor.specs.Floor.Sides.{Side, up, left, down, right, next, opp, prev, round, Piece, side, room, Place, size, Stars, Known, Named, Lawful, Meets, Tile, In, AtFirst, AtLast, Linked, Rounds, Local}
+use native.Mathlib.Decide.{decLe}
+use Rattle.floor.specs.Floor.Sides.{Side, next, opp, prev, round, Piece, side, room, Place, size, Stars, Known, Named, Lawful, Meets, Tile, In, AtFirst}
+use Rattle.floor.specs.Floor.Sides.{AtLast, Linked, Rounds, Local}
 
 -- the lists' maps
 pub first-map : {P Q : Piece → Type 0} (l : List Piece) → ((v : Piece) → List·Memᴰ v l → P v → Q v) → AtFirst P l → AtFirst Q l
@@ -20,8 +21,11 @@ last-map (v ∷ w ∷ l) f h = last-map (w ∷ l) (λ x m. f x (List·Memᴰ·ta
 pub linked-map : {P Q : Piece → Piece → Type 0} (l : List Piece) → ((v w : Piece) → List·Memᴰ v l → List·Memᴰ w l → P v w → Q v w) → Linked P l → Linked Q l
 linked-map [] f h = tt
 linked-map (v ∷ []) f h = tt
-linked-map (v ∷ w ∷ l) f h =
-    (f v w (List·Memᴰ·head refl) (List·Memᴰ·tail (List·Memᴰ·head refl)) (h .0), linked-map (w ∷ l) (λ x y m n. f x y (List·Memᴰ·tail m) (List·Memᴰ·tail n)) (h .1))
+linked-map (v ∷ w ∷ l) f h = (
+  f v w (List·Memᴰ·head refl) (List·Memᴰ·tail (List·Memᴰ·head refl)) (h .0),
+  linked-map (w ∷ l)
+      (λ x y m n. f x y (List·Memᴰ·tail m) (List·Memᴰ·tail n)) (h .1),
+)
 
 -- some P on the first entry, whose list then has one
 pub first-some : {P : Piece → Type 0} (l : List Piece) → AtFirst P l → (v : Piece) × List·Memᴰ v l × P v
@@ -39,7 +43,8 @@ linked-tail R v (w ∷ l) k = k .1
 
 -- A: past the start of an entry; B: past its end
 module _ (A B : Piece → Type 0) where
-  find : ((v : Piece) → Dec (B v)) → (l : List Piece) → Linked (λ a b. B a → A b) l → AtFirst A l → AtLast (λ v. B v → ⊥) l → (v : Piece) × List·Memᴰ v l × A v × (B v → ⊥)
+  find : ((v : Piece) → Dec (B v)) → (l : List Piece) → Linked (λ a b. B a → A b) l → AtFirst A l → AtLast (λ v. B v → ⊥) l
+      → (v : Piece) × List·Memᴰ v l × A v × (B v → ⊥)
   find dec [] k f z = absurd f
   find dec (v ∷ []) k f z = (v, List·Memᴰ·head refl, f, z)
   find dec (v ∷ w ∷ l) k f z = go (dec v) (λ h. find dec (w ∷ l) (k .1) h z)
@@ -52,7 +57,8 @@ module _ (A B : Piece → Type 0) where
   pull v s (w ∷ l) k g (List·Memᴰ·head e) h = k .0 (rw e at h)
   pull v s (w ∷ l) k g (List·Memᴰ·tail m) h = k .0 (g w (List·Memᴰ·head refl) (pull w s l (k .1) (λ x n. g x (List·Memᴰ·tail n)) m h))
 
-  only : (l : List Piece) → Linked (λ a b. A b → B a) l → ((w : Piece) → List·Memᴰ w l → B w → A w) → (r s : Piece) → List·Memᴰ r l → List·Memᴰ s l → A r → (B r → ⊥) → A s → (B s → ⊥) → r ≡ s
+  only : (l : List Piece) → Linked (λ a b. A b → B a) l → ((w : Piece) → List·Memᴰ w l → B w → A w) → (r s : Piece) → List·Memᴰ r l → List·Memᴰ s l → A r
+      → (B r → ⊥) → A s → (B s → ⊥) → r ≡ s
   only (v ∷ l) k g r s (List·Memᴰ·head e) (List·Memᴰ·head f) ra rb sa sb = e ∙ sym f
   only (v ∷ l) k g r s (List·Memᴰ·head e) (List·Memᴰ·tail n) ra rb sa sb =
       absurd (rb (rw e (pull v s l k (λ w m. g w (List·Memᴰ·tail m)) n sa)))
@@ -115,7 +121,8 @@ module _ (s : Stars) (p : Place) (g : Lawful s) (l : Local s p) where
           (v, m, record { ina = omega (arith, t .touch); inb = omega (arith, z); inc = omega (arith, t .touch, x .ac); ind = y })
 
   -- two entries of a list that cover one cell across are one
-  pub one-entry : (k : Side) (i : ℕ) → i < s .count → (b d : ℕ) → b + d + 1 ≡ size p (next k) → (r t : Piece) → List·Memᴰ r (s .list k i) → List·Memᴰ t (s .list k i)
+  pub one-entry : (k : Side) (i : ℕ) → i < s .count → (b d : ℕ) → b + d + 1 ≡ size p (next k) → (r t : Piece) → List·Memᴰ r (s .list k i)
+      → List·Memᴰ t (s .list k i)
       → b < p .at (next k) r → d < p .at (prev k) r → b < p .at (next k) t → d < p .at (prev k) t → r ≡ t
   one-entry k i h b d e r t mr mt rb rd tb td =
       only (λ v. d < p .at (prev k) v) (λ v. p .at (next k) v ≤ b) (s .list k i)

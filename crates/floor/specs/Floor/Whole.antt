@@ -1,11 +1,11 @@
 -- A local plan is a good one. Assumes nothing.
-use mathlib.Core.Path.{_≡_, refl, sym, ap, _∙_, subst}
-use mathlib.Core.Logic.{_⊎_, inl, inr}
+use mathlib.Core.Path.{_≡_, refl, ap}
+use mathlib.Core.Logic.{inl, inr}
 use mathlib.Core.List.{List, [], _∷_, List·Memᴰ, List·Memᴰ·head, List·Memᴰ·tail}
-use Prim.Native.Nat.{ℕ, zero, suc, _+_, _-_, _≤_, _<_, min}
+use Prim.Native.Nat.{ℕ, _+_, _-_, _≤_, _<_, min}
 use native.Mathlib.Omega.{arith}
-use native.Mathlib.Decide.{decLe, decLt}
-use Rattle.floor.specs.Floor.Sides.{Side, up, left, down, right, next, opp, prev, round, around, Piece, side, room, Place, size, Stars, Known, Named, Lawful, Meets, Tile, In, AtFirst, AtLast, Linked, Ordered, Precedes, Rounds, Local, Good, Base, Shape, Contact, Beside, wn, ws, ne, se, nw, sw, en, es}
+use Rattle.floor.specs.Floor.Sides.{Side, up, left, down, right, next, opp, prev, round, Piece, side, room, Place, size, Stars, Known, Lawful, Meets}
+use Rattle.floor.specs.Floor.Sides.{Tile, In, Linked, Ordered, Rounds, Local, Good, Shape, Contact, Beside, wn, ws, ne, se, nw, sw, en, es}
 use Rattle.floor.specs.Floor.Tiles.{beside, linked-map, linked-tail, first-some, last-some, named-known}
 use Rattle.floor.specs.Floor.Cover.{size-opp, alone, cover, gap}
 
@@ -25,7 +25,8 @@ linked-ordered R t (v ∷ l) k = (λ w m. later v w l k m, linked-ordered R t l 
     later v w (x ∷ l) k (List·Memᴰ·head e) = rw e (k .0)
     later v w (x ∷ l) k (List·Memᴰ·tail m) = t v x w (k .0) (later x w l (k .1) m)
 
-pub ordered-map : {P Q : Piece → Piece → Type 0} (l : List Piece) → ((v w : Piece) → List·Memᴰ v l → List·Memᴰ w l → P v w → Q v w) → Ordered P l → Ordered Q l
+pub ordered-map : {P Q : Piece → Piece → Type 0} (l : List Piece) → ((v w : Piece) → List·Memᴰ v l → List·Memᴰ w l → P v w → Q v w) → Ordered P l
+    → Ordered Q l
 ordered-map [] f h = tt
 ordered-map (v ∷ l) f h =
     (λ w m. f v w (List·Memᴰ·head refl) (List·Memᴰ·tail m) (h .0 w m), ordered-map l (λ x y m n. f x y (List·Memᴰ·tail m) (List·Memᴰ·tail n)) (h .1))
@@ -44,12 +45,29 @@ beside-back up t r m = elim m [ ]
 beside-back down t r m = elim m [ ]
 
 -- frame sides that meet, by their shape alone
-module _ (s : Stars) (p : Place) (sh : Shape p) (inside : (k : Side) (v : Piece) → Known s v → p .at k v ≤ size p k) (thick : (k : Side) (v : Piece) → Known s v → size p k < p .at k v + p .at (opp k) v) (gap : p .at up (side down) + p .at down (side up) < p .height) where
+module _ (s : Stars) (p : Place) (sh : Shape p) (inside : (k : Side) (v : Piece) → Known s v → p .at k v ≤ size p k) (thick : (k : Side) (v : Piece)
+    → Known s v → size p k < p .at k v + p .at (opp k) v) (gap : p .at up (side down) + p .at down (side up) < p .height) where
   pub beside-meets : {t r : Side} → Beside right t r → Meets p right (side t) (side r)
-  beside-meets wn = record { touch = omega (arith, sh .n-left); ahead = omega (arith, sh .w-up, sh .n-up, thick up (side up) tt); behind = omega (arith, sh .w-down, sh .n-up, gap) }
-  beside-meets ws = record { touch = omega (arith, sh .s-left); ahead = omega (arith, sh .w-up, sh .s-down, gap); behind = omega (arith, sh .w-down, sh .s-down, thick up (side down) tt) }
-  beside-meets ne = record { touch = omega (arith, sh .n-right); ahead = omega (arith, sh .e-down, sh .n-up, gap); behind = omega (arith, sh .e-up, sh .n-up, thick up (side up) tt) }
-  beside-meets se = record { touch = omega (arith, sh .s-right); ahead = omega (arith, sh .e-down, sh .s-down, thick up (side down) tt); behind = omega (arith, sh .e-up, sh .s-down, gap) }
+  beside-meets wn = record {
+    touch = omega (arith, sh .n-left);
+    ahead = omega (arith, sh .w-up, sh .n-up, thick up (side up) tt);
+    behind = omega (arith, sh .w-down, sh .n-up, gap);
+  }
+  beside-meets ws = record {
+    touch = omega (arith, sh .s-left);
+    ahead = omega (arith, sh .w-up, sh .s-down, gap);
+    behind = omega (arith, sh .w-down, sh .s-down, thick up (side down) tt);
+  }
+  beside-meets ne = record {
+    touch = omega (arith, sh .n-right);
+    ahead = omega (arith, sh .e-down, sh .n-up, gap);
+    behind = omega (arith, sh .e-up, sh .n-up, thick up (side up) tt);
+  }
+  beside-meets se = record {
+    touch = omega (arith, sh .s-right);
+    ahead = omega (arith, sh .e-down, sh .s-down, thick up (side down) tt);
+    behind = omega (arith, sh .e-up, sh .s-down, gap);
+  }
 
   -- no two frame sides stand upon one another
   pub no-touch : (t r : Side) → p .at up (side t) + p .at down (side r) ≡ p .height → ⊥
@@ -96,41 +114,68 @@ module _ (s : Stars) (p : Place) (g : Lawful s) (l : Local s p) where
   pos k v h = omega (arith, l .thick k v h, l .inside (opp k) v h, size-opp p k)
 
   -- both forms of the order
-  pub strict : (k : Side) (i : ℕ) → i < s .count → Ordered (λ v w. (p .at (next k) v < p .at (next k) w) × (p .at (prev k) w < p .at (prev k) v)) (s .list k i)
-  strict k i h =
-      linked-ordered (λ v w. (p .at (next k) v < p .at (next k) w) × (p .at (prev k) w < p .at (prev k) v)) (λ a b c q r. (omega (arith, q .0, r .0), omega (arith, q .1, r .1)))
+  pub strict : (k : Side) (i : ℕ) → i < s .count → Ordered (λ v w. (p .at (next k) v < p .at (next k) w) × (p .at (prev k) w < p .at (prev k) v))
       (s .list k i)
-      (linked-map (s .list k i) (λ v w m n e. (omega (arith, l .thick (next k) w (known k i w h n)), omega (arith, l .thick (next k) v (known k i v h m)))) (l .linked k i h))
+  strict k i h =
+      linked-ordered (λ v w. (p .at (next k) v < p .at (next k) w) × (p .at (prev k) w < p .at (prev k) v))
+      (λ a b c q r. (omega (arith, q .0, r .0), omega (arith, q .1, r .1)))
+      (s .list k i)
+      (linked-map (s .list k i)
+      (λ v w m n e. (omega (arith, l .thick (next k) w (known k i w h n)), omega (arith, l .thick (next k) v (known k i v h m)))) (l .linked k i h))
 
   -- no room meets another vertex at a corner only
-  room-corner : (k : Side) (i : ℕ) (v : Piece) → i < s .count → Known s v → p .at k (room i) + p .at (opp k) v ≡ size p k → p .at (next k) (room i) + p .at (prev k) v ≡ size p (next k) → ⊥
+  room-corner : (k : Side) (i : ℕ) (v : Piece) → i < s .count → Known s v → p .at k (room i) + p .at (opp k) v ≡ size p k
+      → p .at (next k) (room i) + p .at (prev k) v ≡ size p (next k) → ⊥
   room-corner k i v h hv e f =
       let (a, ma, q) = last-some (s .list k i) (l .turns k i h) in
       let (b, mb, t) = first-some (s .list (next k) i) q in
       go a b ma mb (l .meets k i a h ma) (l .meets (next k) i b h mb) (l .thick k v hv) (l .thick (next k) v hv) t
     where
       x : Tile p k
-      x = record { a = p .at k (room i); b = p .at (next k) (room i); c = p .at (opp k) v - 1; d = p .at (prev k) v - 1; ac = omega (arith, l .thick k v hv, l .inside k v hv); bd = omega (arith, l .thick (next k) v hv, l .inside (next k) v hv) }
+      x = record {
+        a = p .at k (room i);
+        b = p .at (next k) (room i);
+        c = p .at (opp k) v - 1;
+        d = p .at (prev k) v - 1;
+        ac = omega (arith, l .thick k v hv, l .inside k v hv);
+        bd = omega (arith, l .thick (next k) v hv, l .inside (next k) v hv);
+      }
 
       here : In p k x v
-      here = record { ina = omega (arith, l .thick k v hv); inb = omega (arith, l .thick (next k) v hv); inc = omega (arith, l .thick k v hv, l .inside k v hv); ind = omega (arith, l .thick (next k) v hv, l .inside (next k) v hv) }
+      here = record {
+        ina = omega (arith, l .thick k v hv);
+        inb = omega (arith, l .thick (next k) v hv);
+        inc = omega (arith, l .thick k v hv, l .inside k v hv);
+        ind = omega (arith, l .thick (next k) v hv, l .inside (next k) v hv);
+      }
 
       go : (a b : Piece) → List·Memᴰ a (s .list k i) → List·Memᴰ b (s .list (next k) i) → Meets p k (room i) a → Meets p (next k) (room i) b
           → size p k < p .at k v + p .at (opp k) v → size p (next k) < p .at (next k) v + p .at (prev k) v → Rounds p k (room i) a b → ⊥
       go a b ma mb na nb tv tw (inl t) =
           let wide : size p (opp k) < p .at k (room i) + p .at (opp k) b = rw (round k) at (nb .behind) in
           let same : b ≡ v = alone s p g l k x b v (known (next k) i b h mb) hv
-            (record { ina = t .1; inb = omega (arith, nb .touch, l .thick (next k) b (known (next k) i b h mb)); inc = omega (arith, size-opp p k); ind = omega (arith, nb .touch, pos (prev k) v hv) }) here in
+          (record {
+            ina = t .1;
+            inb = omega (arith, nb .touch, l .thick (next k) b (known (next k) i b h mb));
+            inc = omega (arith, size-opp p k);
+            ind = omega (arith, nb .touch, pos (prev k) v hv);
+          }) here in
           omega (arith, ap (p .at (opp k)) same, size-opp p k)
       go a b ma mb na nb tv tw (inr t) =
           let same : a ≡ v = alone s p g l k x a v (known k i a h ma) hv
-            (record { ina = omega (arith, na .touch, l .thick k a (known k i a h ma)); inb = t .0; inc = omega (arith, na .touch, l .inside k v hv); ind = omega (arith, na .ahead) }) here in
+          (record {
+            ina = omega (arith, na .touch, l .thick k a (known k i a h ma));
+            inb = t .0;
+            inc = omega (arith, na .touch, l .inside k v hv);
+            ind = omega (arith, na .ahead);
+          }) here in
           omega (arith, ap (p .at (prev k)) same, na .ahead)
 
   upon : (t r : Side) → p .at up (side t) + p .at down (side r) ≡ p .height → ⊥
   upon = no-touch s p (l .shape) (l .inside) (l .thick) (gap s p g l)
 
-  pub corner : (k : Side) (u v : Piece) → Known s u → Known s v → p .at k u + p .at (opp k) v ≡ size p k → p .at (next k) u + p .at (prev k) v ≡ size p (next k) → ⊥
+  pub corner : (k : Side) (u v : Piece) → Known s u → Known s v → p .at k u + p .at (opp k) v ≡ size p k
+      → p .at (next k) u + p .at (prev k) v ≡ size p (next k) → ⊥
   corner k (room i) v hu hv e f = room-corner k i v hu hv e f
   corner up (side t) (room j) hu hv e f = room-corner down j (side t) hv hu (omega arith) (omega arith)
   corner left (side t) (room j) hu hv e f = room-corner right j (side t) hv hu (omega arith) (omega arith)
@@ -144,7 +189,8 @@ module _ (s : Stars) (p : Place) (g : Lawful s) (l : Local s p) where
   -- what meets a room stands in its list
   room-joined : (k : Side) (i : ℕ) (v : Piece) → i < s .count → Known s v → Meets p k (room i) v → List·Memᴰ v (s .list k i)
   room-joined k i v h hv m =
-      let (w, n, q) = beside s p g l k i h x refl (omega (arith, pos (next k) v hv, pos (next k) (room i) h)) (omega (arith, m .behind, tu, pos (prev k) (room i) h)) in
+      let (w, n, q) = beside s p g l k i h x refl (omega (arith, pos (next k) v hv, pos (next k) (room i) h))
+      (omega (arith, m .behind, tu, pos (prev k) (room i) h)) in
       rw (alone s p g l k x w v (known k i w h n) hv q here) at n
     where
       tu : size p (next k) < p .at (next k) (room i) + p .at (prev k) (room i)
@@ -154,10 +200,22 @@ module _ (s : Stars) (p : Place) (g : Lawful s) (l : Local s p) where
       tv = l .thick (next k) v hv
 
       x : Tile p k
-      x = record { a = p .at k (room i); b = min (p .at (next k) (room i)) (p .at (next k) v) - 1; c = p .at (opp k) v - 1; d = size p (next k) - min (p .at (next k) (room i)) (p .at (next k) v); ac = omega (arith, m .touch, l .thick k v hv, l .inside k v hv); bd = omega (arith, l .inside (next k) v hv, l .inside (prev k) v hv, l .inside (prev k) (room i) h, size-opp p (next k)) }
+      x = record {
+        a = p .at k (room i);
+        b = min (p .at (next k) (room i)) (p .at (next k) v) - 1;
+        c = p .at (opp k) v - 1;
+        d = size p (next k) - min (p .at (next k) (room i)) (p .at (next k) v);
+        ac = omega (arith, m .touch, l .thick k v hv, l .inside k v hv);
+        bd = omega (arith, l .inside (next k) v hv, l .inside (prev k) v hv, l .inside (prev k) (room i) h, size-opp p (next k));
+      }
 
       here : In p k x v
-      here = record { ina = omega (arith, m .touch, l .thick k v hv); inb = omega (arith, pos (next k) v hv, pos (next k) (room i) h); inc = omega (arith, pos (opp k) v hv); ind = omega (arith, m .ahead, tv, pos (prev k) v hv) }
+      here = record {
+        ina = omega (arith, m .touch, l .thick k v hv);
+        inb = omega (arith, pos (next k) v hv, pos (next k) (room i) h);
+        inc = omega (arith, pos (opp k) v hv);
+        ind = omega (arith, m .ahead, tv, pos (prev k) v hv);
+      }
 
   pub joined : (k : Side) (u v : Piece) → Known s u → Known s v → Meets p k u v → Contact s k u v
   joined k (room i) v hu hv m = room-joined k i v hu hv m

@@ -2,18 +2,19 @@
 use Prim.Native.Nat.{ℕ, zero, suc, _+_, _-_, _≤_, _<_}
 use mathlib.Core.Path.{_≡_, refl, sym, ap, _∙_}
 use mathlib.Core.Logic.{_⊎_, inl, inr}
-use mathlib.Core.Bool.{Bool, true, false, cond, not, _&&_, _||_}
-use mathlib.Core.List.{List, [], List·Memᴰ, Memᴰ·cast}
+use mathlib.Core.Bool.{Bool, true, not, _&&_, _||_}
+use mathlib.Core.List.{[], List·Memᴰ, Memᴰ·cast}
 use lib.ListN.{length, getD}
 use lib.Dec.{leb, eqb}
 use native.Mathlib.Omega.{arith}
 use native.Mathlib.Decide.{decLt}
 use borrow.Author.Tests.{leb-true, eqb-true, eqb-false, le-leb, lt-leb, eq-eqb, ne-eqb, not-true}
-use Rattle.floor.specs.Lists.{all, any}
-use Rattle.floor.specs.Lists.Laws.{and-left, and-right, and-parts, and-both, or-cases, or-left, or-right, any-mem, mem-any, all-mem, mem-all, mem-getD, getD-mem}
-use Rattle.floor.specs.Lists.Laws.{upFrom-mem, mem-upFrom, implies, implied}
-use Rattle.floor.specs.Jobs.{Entry, Star, Job, Room, Vertex, opposite, frameKind, rooms, isVertex, isRoom, starOf, lists, entryOk, test4, starOk, test5, test6}
-use Rattle.floor.specs.Jobs.Stars.{entry, AtMost, GoodStar, good-of, of-good, mem-most}
+use Rattle.floor.specs.Lists.{all}
+use Rattle.floor.specs.Lists.Laws.{and-parts, and-both, or-cases, or-left, or-right, any-mem, mem-any, all-mem, mem-all, mem-getD, getD-mem, upFrom-mem}
+use Rattle.floor.specs.Lists.Laws.{mem-upFrom, implies, implied}
+use Rattle.floor.specs.Jobs.{Entry, Star, Job, Room, Vertex, opposite, frameKind, rooms, isVertex, isRoom, starOf, lists, entryOk, test4, starOk, test5}
+use Rattle.floor.specs.Jobs.{test6}
+use Rattle.floor.specs.Jobs.Stars.{entry, GoodStar, good-of, of-good, mem-most}
 
 -- rooms and vertices
 pub is-room : (j : Job) (v : ℕ) → isRoom j v ≡ true → Room j v
@@ -131,7 +132,8 @@ passes-of j t4 t5 t6 = record {
       (mem-most 3 (starOf j u) (λ e m. entries-of u r e m .small));
   opposed = λ u r e m l.
       lists-mem (starOf j (e .to)) u (opposite (e .kind))
-      (implied (leb 4 (e .to)) _ (all-mem (backed j u) (starOf j u) (all-mem (λ u. all (backed j u) (starOf j u)) (rooms j) t6 u (room-mem j u r)) e m) (le-leb 4 (e .to) l));
+      (implied (leb 4 (e .to)) _ (all-mem (backed j u) (starOf j u) (all-mem (λ u. all (backed j u) (starOf j u)) (rooms j) t6 u (room-mem j u r)) e m)
+      (le-leb 4 (e .to) l));
 }
   where
     entries-of : (u : ℕ) → Room j u → (e : Entry) → List·Memᴰ e (starOf j u) → EntryOk (length j) u e
@@ -148,7 +150,8 @@ of-passes j k = (
   mem-all (λ u. all (backed j u) (starOf j u)) (rooms j)
       (λ u m.
       mem-all (backed j u) (starOf j u)
-      (λ e i. implies (leb 4 (e .to)) _ (λ l. mem-lists (starOf j (e .to)) u (opposite (e .kind)) (k .opposed u (mem-room j u m) e i (leb-true 4 (e .to) l))))),
+      (λ e i. implies (leb 4 (e .to)) _ (λ l. mem-lists (starOf j (e .to)) u (opposite (e .kind))
+      (k .opposed u (mem-room j u m) e i (leb-true 4 (e .to) l))))),
 )
   where
     star-ok : (s : Star) → (i : ℕ) × (i < length j) × (getD j i [] ≡ s) → starOk s ≡ true

@@ -1,12 +1,11 @@
 -- The star question: the very bytes of the field's value, a stretch of the job; empty where the bytes fail test 1 or 2, or the number is no room.
 -- Assumes nothing.
-use Prim.Native.Nat.{ℕ, zero, suc, _+_, _-_, _%_, _≤_, _<_}
+use Prim.Native.Nat.{ℕ, zero, suc, _-_, _%_, _<_}
 use mathlib.Core.Path.{_≡_, refl, sym, ap, _∙_}
 use mathlib.Core.Bool.{Bool, true, false}
 use mathlib.Core.Option.{some}
 use mathlib.Core.List.{List, [], _∷_, _++_, append-assoc}
 use lib.ListN.{length, getD}
-use lib.Dec.{leb}
 use native.Mathlib.Omega.{arith}
 use Rattle.floor.specs.Fields.{Field, field, readField, valueOf, restOf, afterFields}
 use Rattle.floor.specs.Fields.Laws.{Whole, whole-field}
@@ -51,7 +50,8 @@ raw-stars (suc n) bs j (suc i) e l =
     two : (v rest : List ℕ) (more : Job) → readField bs ≡ field 2 v rest → j ≡ entries v ∷ more
         → (valueOf (readField (afterFields i (restOf (readField bs)))) ≡ starBytes (getD more i []))
         × Stretch (valueOf (readField (afterFields i (restOf (readField bs))))) (restOf (readField bs))
-        → (valueOf (readField (afterFields i (restOf (readField bs)))) ≡ starBytes (getD j (suc i) [])) × Stretch (valueOf (readField (afterFields i (restOf (readField bs))))) bs
+        → (valueOf (readField (afterFields i (restOf (readField bs)))) ≡ starBytes (getD j (suc i) [])) × Stretch
+        (valueOf (readField (afterFields i (restOf (readField bs))))) bs
     two v rest more ef ej below = let (x, s) = rw ef at below in rw (ef, ej) (x, rest-stretch (whole-field bs 2 v rest ef) s)
 
 -- THE VERY BYTES of the field's value
@@ -64,7 +64,8 @@ raw-star bs j v e r = let k : Counted (readField bs) j = counted (readField bs) 
     one n rest ef es =
         let (x, s) = raw-stars n rest j (v - 4) es (omega (arith, r .0, r .1, read-length n rest j es)) in
         let q : v - 3 ≡ suc (v - 4) = omega (arith, r .0) in
-        let b : afterFields (v - 3) bs ≡ afterFields (v - 4) rest = ap (λ (n : ℕ). afterFields n bs) q ∙ ap (λ (f : Field). afterFields (v - 4) (restOf f)) ef in
+        let b : afterFields (v - 3) bs ≡ afterFields (v - 4) rest = ap (λ (n : ℕ). afterFields n bs) q ∙ ap (λ (f : Field). afterFields (v - 4)
+        (restOf f)) ef in
         rw (e, room-is j v r, b, star-room j v (r .0)) (x, rest-stretch (whole-field bs 1 (n ∷ []) rest ef) s)
 
 -- and empty otherwise

@@ -1,17 +1,15 @@
 -- One star: what test 5 says of it, and what it is taken apart at an entry. Assumes nothing.
-use Prim.Native.Nat.{ℕ, zero, suc, _+_, _-_, _*_, _≤_, _<_}
-use mathlib.Core.Path.{_≡_, refl, sym, ap, _∙_}
-use mathlib.Core.Logic.{_⊎_, inl, inr}
-use mathlib.Core.Bool.{Bool, true, false, cond, not, _&&_, _||_}
-use mathlib.Core.List.{List, [], _∷_, _++_, map, append-nil, List·Memᴰ, List·Memᴰ·head, List·Memᴰ·tail, List·Memᴰ·not-nil, List·Memᴰ·cases-cons, Memᴰ·append-left, Memᴰ·append-right, List·Memᴰ·append-cases}
-use lib.ListN.{length, getD, take, drop, length-append, length-map}
-use lib.Seq.{take-at, drop-at}
-use lib.Dec.{leb, ltb, eqb}
+use Prim.Native.Nat.{ℕ, zero, suc, _+_, _≤_}
+use mathlib.Core.Path.{_≡_, refl, sym, _∙_}
+use mathlib.Core.Bool.{Bool, true, false, cond, not}
+use mathlib.Core.List.{[], _∷_, _++_, List·Memᴰ, List·Memᴰ·head, List·Memᴰ·tail}
+use lib.Dec.{leb, eqb}
 use native.Mathlib.Omega.{arith}
 use borrow.Author.Tests.{leb-true, eqb-true, eqb-false, le-leb, eq-eqb, ne-eqb, not-true}
-use Rattle.floor.specs.Lists.{all, any, keep, chained, pairwise, isFirst, isLast}
-use Rattle.floor.specs.Jobs.{Entry, Star, starOk, names, kindOf, listOf}
-use Rattle.floor.specs.Lists.Laws.{no-false, mem-any, and-left, and-right, and-parts, and-both, count, count-cons, mem-count, count-none, none-count, any-count, all-mem, mem-all}
+use Rattle.floor.specs.Lists.{all, any, chained, pairwise}
+use Rattle.floor.specs.Jobs.{Entry, Star, starOk, names, kindOf}
+use Rattle.floor.specs.Lists.Laws.{no-false, mem-any, and-left, and-right, and-parts, and-both, count, count-cons, mem-count, count-none, none-count}
+use Rattle.floor.specs.Lists.Laws.{any-count, all-mem, mem-all}
 
 abbrev pub entry : ℕ → ℕ → Entry
 entry v k = record { to = v; kind = k }
@@ -66,7 +64,8 @@ unfolding chained
 sorted-of [] h = tt
 sorted-of (x ∷ []) h = (tt, tt)
 sorted-of (x ∷ y ∷ s) h =
-    let below : AtLeast (y .kind) s × Sorted s = sorted-of (y ∷ s) (and-right (leb (x .kind) (y .kind)) (chained (λ a b. leb (a .kind) (b .kind)) (y ∷ s)) h) in
+    let below : AtLeast (y .kind) s × Sorted s = sorted-of (y ∷ s) (and-right (leb (x .kind) (y .kind)) (chained (λ a b. leb (a .kind) (b .kind)) (y ∷ s))
+    h) in
     let l : x .kind ≤ y .kind = leb-true (x .kind) (y .kind) (and-left (leb (x .kind) (y .kind)) (chained (λ a b. leb (a .kind) (b .kind)) (y ∷ s)) h) in
     ((l, least-down (y .kind) (x .kind) s l (below .0)), below)
 
@@ -74,7 +73,8 @@ of-sorted : (s : Star) → Sorted s → chained (λ a b. leb (a .kind) (b .kind)
 unfolding chained
 of-sorted [] h = refl
 of-sorted (x ∷ []) h = refl
-of-sorted (x ∷ y ∷ s) h = and-both (leb (x .kind) (y .kind)) (chained (λ a b. leb (a .kind) (b .kind)) (y ∷ s)) (le-leb (x .kind) (y .kind) (h .0 .0)) (of-sorted (y ∷ s) (h .1))
+of-sorted (x ∷ y ∷ s) h = and-both (leb (x .kind) (y .kind)) (chained (λ a b. leb (a .kind) (b .kind)) (y ∷ s)) (le-leb (x .kind) (y .kind) (h .0 .0))
+    (of-sorted (y ∷ s) (h .1))
 
 has-of : (s : Star) → all (λ k. any (λ e. eqb (e .kind) k) s) (0 ∷ 1 ∷ 2 ∷ 3 ∷ []) ≡ true → (k : ℕ) → List·Memᴰ k (0 ∷ 1 ∷ 2 ∷ 3 ∷ []) → 1 ≤ ofKind k s
 has-of s h k m =
@@ -126,7 +126,13 @@ of-once (d ∷ s) h = and-both _ _ (mem-all (different d) s apart) (of-once s re
 
     rest : (e : Entry) → List·Memᴰ e s → named (e .to) s ≡ 1
     rest e m =
-        omega (arith, h e (List·Memᴰ·tail m), count-cons (λ (x : Entry). eqb (x .to) (e .to)) d s, mem-count (λ (x : Entry). eqb (x .to) (e .to)) s e m (eq-eqb (e .to) (e .to) refl))
+        omega (
+          arith,
+          h e (List·Memᴰ·tail m),
+          count-cons (λ (x : Entry). eqb (x .to) (e .to)) d s,
+          mem-count (λ (x : Entry). eqb (x .to) (e .to)) s e m
+              (eq-eqb (e .to) (e .to) refl),
+        )
 
 pub good-of : (s : Star) → starOk s ≡ true → AtMost 3 s → GoodStar s
 unfolding starOk
@@ -140,7 +146,8 @@ unfolding starOk
 of-good s g =
     and-both _ _
     (and-both _ _ (of-sorted s (g .sorted))
-    (mem-all (λ k. any (λ e. eqb (e .kind) k) s) (0 ∷ 1 ∷ 2 ∷ 3 ∷ []) (λ k m. any-count (λ e. eqb (e .kind) k) s ∙ le-leb 1 (ofKind k s) (g .has k (four-le k m)))))
+    (mem-all (λ k. any (λ e. eqb (e .kind) k) s) (0 ∷ 1 ∷ 2 ∷ 3 ∷ []) (λ k m. any-count (λ e. eqb (e .kind) k) s ∙ le-leb 1 (ofKind k s)
+    (g .has k (four-le k m)))))
     (of-once s (g .once))
 
 -- A STAR TAKEN APART at the entry of v
@@ -172,7 +179,8 @@ unfolding kindOf
 kindOf-mid [] v k Q h = let e : eqb v v ≡ true = eq-eqb v v refl in rw e
 kindOf-mid (d ∷ P) v k Q h = go (eqb (d .to) v) refl (kindOf-mid P v k Q)
   where
-    go : (b : Bool) → eqb (d .to) v ≡ b → (named v P ≡ 0 → kindOf (P ++ entry v k ∷ Q) v ≡ k) → cond (eqb (d .to) v) (d .kind) (kindOf (P ++ entry v k ∷ Q) v) ≡ k
+    go : (b : Bool) → eqb (d .to) v ≡ b → (named v P ≡ 0 → kindOf (P ++ entry v k ∷ Q) v ≡ k)
+        → cond (eqb (d .to) v) (d .kind) (kindOf (P ++ entry v k ∷ Q) v) ≡ k
     go true e below = absurd (omega (arith, named-mem v (d ∷ P) d (List·Memᴰ·head refl) (eqb-true (d .to) v e)))
     go false e below = rw e (below (omega (arith, count-cons (λ (d : Entry). eqb (d .to) v) d P)))
 
@@ -182,7 +190,8 @@ unfolding names any kindOf
 kindOf-mem [] v h = no-false h
 kindOf-mem (d ∷ s) v h = go (eqb (d .to) v) refl (kindOf-mem s v)
   where
-    go : (b : Bool) → eqb (d .to) v ≡ b → (any (λ (e : Entry). eqb (e .to) v) s ≡ true → List·Memᴰ (entry v (kindOf s v)) s) → List·Memᴰ (entry v (cond (eqb (d .to) v) (d .kind) (kindOf s v))) (d ∷ s)
+    go : (b : Bool) → eqb (d .to) v ≡ b → (any (λ (e : Entry). eqb (e .to) v) s ≡ true → List·Memᴰ (entry v (kindOf s v)) s)
+        → List·Memᴰ (entry v (cond (eqb (d .to) v) (d .kind) (kindOf s v))) (d ∷ s)
     go true e below = let a : d .to ≡ v = eqb-true (d .to) v e in rw e (List·Memᴰ·head (λ i. record { to = sym a i; kind = d .kind }))
     go false e below = rw e (List·Memᴰ·tail (below (rw e at h)))
 

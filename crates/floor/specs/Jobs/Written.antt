@@ -1,18 +1,18 @@
 -- A job written is read back, and a job read is written back: one job, one writing. Assumes nothing.
-use Prim.Native.Nat.{ℕ, zero, suc, _+_, _*_, _%_, _≤_, _<_}
+use Prim.Native.Nat.{ℕ, zero, suc, _+_, _*_, _%_, _<_}
 use mathlib.Core.Path.{_≡_, refl, sym, ap, _∙_}
 use mathlib.Core.Bool.{Bool, true, false, cond, _&&_}
 use mathlib.Core.Option.{Option, none, some}
-use mathlib.Core.List.{List, [], _∷_, _++_, List·Memᴰ, List·Memᴰ·head, List·Memᴰ·tail}
+use mathlib.Core.List.{List, [], _∷_, List·Memᴰ, List·Memᴰ·head, List·Memᴰ·tail}
 use lib.ListN.{length, getD, length-append}
-use lib.Dec.{leb, eqb}
+use lib.Dec.{eqb}
 use native.Mathlib.Omega.{arith}
-use borrow.Author.Tests.{leb-true, eqb-true, le-leb, eq-eqb}
+use borrow.Author.Tests.{eqb-true, eq-eqb}
 use Rattle.floor.specs.Lists.{sum}
-use Rattle.floor.specs.Lists.Laws.{and-left, and-right, and-both}
+use Rattle.floor.specs.Lists.Laws.{and-left, and-right}
 use Rattle.floor.specs.Fields.{Bytes, Field, broken, field, readField, restOf, writeField}
 use Rattle.floor.specs.Fields.Laws.{bytes-append, bytes-rest, read-write-field, write-read-field, length-field, bytes-field}
-use Rattle.floor.specs.Jobs.{Entry, Star, Job, pairsIn, test2, entries, starThen, readStars, Reading, fails, reads, readRest, readRooms, readFirst, readJob}
+use Rattle.floor.specs.Jobs.{Entry, Star, Job, pairsIn, test2, entries, starThen, readStars, fails, reads, readRest, readRooms, readFirst, readJob}
 use Rattle.floor.specs.Jobs.{starBytes, writeStars, writeJob}
 
 -- none is not some; what fails is not read
@@ -105,7 +105,8 @@ counted (field t v rest) j e = go (eqb t 1 && eqb (length v) 1) refl e
     rooms-of n ev et false q e = no-fails 2 j e
     rooms-of n ev et true q e = record { count = n; rest = rest; is-field = rw (ev, et); passes = q; is-stars = stars-of (readStars n rest) e }
 
-    go : (b : Bool) → (eqb t 1 && eqb (length v) 1) ≡ b → cond b (readRooms (test2 (getD v 0 0)) (getD v 0 0) rest) (fails 1) ≡ reads j → Counted (field t v rest) j
+    go : (b : Bool) → (eqb t 1 && eqb (length v) 1) ≡ b → cond b (readRooms (test2 (getD v 0 0)) (getD v 0 0) rest) (fails 1) ≡ reads j
+        → Counted (field t v rest) j
     go false q e = no-fails 1 j e
     go true q e =
         let (n, ev) = single v (eqb-true (length v) 1 (and-right (eqb t 1) (eqb (length v) 1) q)) in
@@ -144,7 +145,11 @@ pub write-read-job : (bs : List ℕ) (j : Job) → Bytes bs → readJob bs ≡ r
 unfolding readJob writeJob
 write-read-job bs j ok e =
     let k : Counted (readField bs) j = counted (readField bs) j e in
-    rw (read-length (k .count) (k .rest) j (k .is-stars), write-read-stars (k .count) (k .rest) j (bytes-rest bs 1 (k .count ∷ []) (k .rest) ok (k .is-field)) (k .is-stars))
+    rw (
+      read-length (k .count) (k .rest) j (k .is-stars),
+      write-read-stars (k .count) (k .rest) j (bytes-rest bs 1 (k .count ∷ []) (k .rest) ok
+          (k .is-field)) (k .is-stars),
+    )
     (write-read-field bs 1 (k .count ∷ []) (k .rest) ok (k .is-field))
 
 -- how long a written job is
@@ -166,7 +171,8 @@ bytes-star (e ∷ s) h =
     let x : (e .to < 256) × (e .kind < 256) = h e (List·Memᴰ·head refl) in
     (x .0, (x .1, bytes-star s (λ d m. h d (List·Memᴰ·tail m))))
 
-bytes-stars : (j : Job) → ((s : Star) → List·Memᴰ s j → (length s < 32768) × ((e : Entry) → List·Memᴰ e s → (e .to < 256) × (e .kind < 256))) → Bytes (writeStars j)
+bytes-stars : (j : Job) → ((s : Star) → List·Memᴰ s j → (length s < 32768) × ((e : Entry) → List·Memᴰ e s → (e .to < 256) × (e .kind < 256)))
+    → Bytes (writeStars j)
 unfolding writeStars
 bytes-stars [] h = tt
 bytes-stars (s ∷ j) h =
@@ -174,7 +180,8 @@ bytes-stars (s ∷ j) h =
     bytes-append (writeField 2 (starBytes s)) (writeStars j)
     (bytes-field 2 (starBytes s) (omega arith) (omega (arith, length-starBytes s)) (bytes-star s small)) (bytes-stars j (λ r m. h r (List·Memᴰ·tail m)))
 
-pub bytes-job : (j : Job) → length j < 256 → ((s : Star) → List·Memᴰ s j → (length s < 32768) × ((e : Entry) → List·Memᴰ e s → (e .to < 256) × (e .kind < 256))) → Bytes (writeJob j)
+pub bytes-job : (j : Job) → length j < 256
+    → ((s : Star) → List·Memᴰ s j → (length s < 32768) × ((e : Entry) → List·Memᴰ e s → (e .to < 256) × (e .kind < 256))) → Bytes (writeJob j)
 unfolding writeJob
 bytes-job j l h =
     bytes-append (writeField 1 (length j ∷ [])) (writeStars j) (bytes-field 1 (length j ∷ []) (omega arith) (omega arith) (l, tt)) (bytes-stars j h)

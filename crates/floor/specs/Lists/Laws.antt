@@ -3,13 +3,13 @@ use Prim.Native.Nat.{ℕ, zero, suc, _+_, _≤_, _<_}
 use mathlib.Core.Path.{_≡_, refl, sym, ap, _∙_}
 use mathlib.Core.Logic.{_⊎_, inl, inr}
 use mathlib.Core.Bool.{Bool, true, false, cond, not, _&&_, _||_}
-use mathlib.Core.List.{List, [], _∷_, _++_, map, List·Memᴰ, List·Memᴰ·head, List·Memᴰ·tail, List·Memᴰ·not-nil, Memᴰ·append-right}
+use mathlib.Core.List.{List, [], _∷_, _++_, map, List·Memᴰ, List·Memᴰ·head, List·Memᴰ·tail, List·Memᴰ·not-nil}
 use lib.ListN.{length, getD}
-use lib.Dec.{leb, eqb}
+use lib.Dec.{leb}
 use native.Mathlib.Omega.{arith}
 use native.Mathlib.Decide.{ℕ-discrete}
-use borrow.Author.Tests.{leb-true, eqb-true, eqb-false, le-leb, eq-eqb, ne-eqb}
-use Rattle.floor.specs.Lists.{all, any, keep, pairwise, chained, upFrom, isFirst, isLast}
+use borrow.Author.Tests.{leb-true, le-leb}
+use Rattle.floor.specs.Lists.{all, any, keep, pairwise, upFrom}
 
 -- true is not false
 pub no-false : {X : Type 0} → _≡_ {A = Bool} false true → X
@@ -166,7 +166,8 @@ module _ {A : Type 0} where
   all-at p [] d h = refl
   all-at p (x ∷ xs) d h = rw (h 0 (omega arith)) (all-at p xs d (λ i k. h (suc i) (omega arith)))
 
-  pub at-pairwise : (r : A → A → Bool) (xs : List A) (d : A) → ((i k : ℕ) → i < k → k < length xs → r (getD xs i d) (getD xs k d) ≡ true) → pairwise r xs ≡ true
+  pub at-pairwise : (r : A → A → Bool) (xs : List A) (d : A) → ((i k : ℕ) → i < k → k < length xs → r (getD xs i d) (getD xs k d) ≡ true)
+      → pairwise r xs ≡ true
   unfolding pairwise
   at-pairwise r [] d h = refl
   at-pairwise r (x ∷ xs) d h =

@@ -100,12 +100,14 @@ module _ (j : Job) (ok : Passes j) where
           go true x false y = omega (arith, one-number (sym (past-true (test8 p) 8 _ x ∙ past-false (drawable j p) 9 _ y) ∙ e))
           go true x true y = not-held (sym (sym (past-true (test8 p) 8 _ x ∙ past-true (drawable j p) 9 _ y) ∙ e))
 
-      forth : (a : Option (List ℕ)) → jobNumbers upright j ≡ a → (b : Option (List ℕ)) → jobNumbers level j ≡ b → planned j a b ≡ refused 7 → Circle (rules upright j) ⊎ Circle (rules level j)
+      forth : (a : Option (List ℕ)) → jobNumbers upright j ≡ a → (b : Option (List ℕ)) → jobNumbers level j ≡ b → planned j a b ≡ refused 7
+          → Circle (rules upright j) ⊎ Circle (rules level j)
       forth none x b y e = inl (circle-are upright j ok x)
       forth (some f) x none y e = inr (circle-are level j ok y)
       forth (some f) x (some g) y e = absurd (not-seven (planOf j (at f) (at g)) e)
 
-      back : (a : Option (List ℕ)) → jobNumbers upright j ≡ a → (b : Option (List ℕ)) → jobNumbers level j ≡ b → Circle (rules upright j) ⊎ Circle (rules level j) → planned j a b ≡ refused 7
+      back : (a : Option (List ℕ)) → jobNumbers upright j ≡ a → (b : Option (List ℕ)) → jobNumbers level j ≡ b
+          → Circle (rules upright j) ⊎ Circle (rules level j) → planned j a b ≡ refused 7
       back none x none y c = refl
       back none x (some g) y c = refl
       back (some f) x none y c = refl
@@ -129,7 +131,11 @@ module _ (j : Job) (ok : Passes j) where
     pub drawable-is-floor : 0 < length j → (drawable j (planOf j f g) ≡ true) ↔ Floor j (planOf j f g)
     drawable-is-floor some-room = (
       λ d. drawable-good-plan some-room d .floor,
-      λ h. good-drawable j ok (planOf j f g) (plan-complete j f g) (record { framed = plan-framed j f g; inside = plan-inside j ok some-room f g nf ng; floor = h }),
+      λ h. good-drawable j ok (planOf j f g) (plan-complete j f g) (record {
+        framed = plan-framed j f g;
+        inside = plan-inside j ok some-room f g nf ng;
+        floor = h;
+      }),
     )
 
   -- WHAT IS HELD IS A FLOOR PLAN, as a good plan of anybody's

@@ -1,22 +1,22 @@
 -- Turning a contact of a held plan: the turned job passes tests 4 to 6 again, joins the same pairs, and turned again at once gives back the job.
 -- Assumes nothing.
-use Prim.Native.Nat.{ℕ, zero, suc, _+_, _-_, _*_, _%_, _≤_, _<_}
+use Prim.Native.Nat.{ℕ, _-_, _≤_, _<_}
 use mathlib.Core.Path.{_≡_, refl, sym, ap, _∙_}
 use mathlib.Core.Logic.{_⊎_, inl, inr, _≢_}
-use mathlib.Core.Bool.{Bool, true, false, cond, not, _&&_, _||_}
-use mathlib.Core.List.{[], _∷_, _++_, map, List·Memᴰ}
+use mathlib.Core.Bool.{Bool, true, false, not, _&&_, _||_}
+use mathlib.Core.List.{[], _∷_, _++_, List·Memᴰ}
 use lib.ListN.{length, getD, set, length-set}
 use lib.Seq.{getD-set-same, getD-set-other, set-getD, set-set, set-comm, map-set-same}
 use lib.Dec.{leb, eqb}
 use native.Mathlib.Omega.{arith}
 use native.Mathlib.Decide.{decLt, ℕ-discrete}
 use borrow.Author.Tests.{leb-true, le-leb, eq-eqb, ne-eqb}
-use Rattle.floor.specs.Lists.{sum, any, isLast}
+use Rattle.floor.specs.Lists.{sum, isLast}
 use Rattle.floor.specs.Lists.Laws.{and-parts, and-both, any-count, Apart, apart-at}
 use Rattle.floor.specs.Jobs.{Entry, Star, Job, Room, opposite, isRoom, starOf, names, kindOf, listOf, pairsIn}
 use Rattle.floor.specs.Jobs.Stars.{entry, named, ofKind, GoodStar, kindOf-mem, mem-names}
 use Rattle.floor.specs.Jobs.Facts.{EntryOk, Passes, is-room, room-is, star-room, star-frame}
-use Rattle.floor.specs.Plans.{Plan, Answer, held, past, drawn, nextSide, joined}
+use Rattle.floor.specs.Plans.{Plan, Answer, held, drawn, joined}
 use Rattle.floor.specs.Plans.Held.{past-true, past-held}
 use Rattle.floor.specs.Floor.{GoodPlan}
 use Rattle.floor.specs.Turns.{turnedKind, rekinded, turned, turnAt, turnFrom, inContact, turn}
@@ -90,10 +90,17 @@ module _ (j i : Job) (ok : Passes j) where
       go (inl q) =
           let a : e .to ≡ v = ap (λ (d : Entry). d .to) q in
           let b : e .kind ≡ t = ap (λ (d : Entry). d .kind) q in
-          record { below = omega (arith, c .room-v .1, c .long); other = λ z. c .differ (sym z ∙ a); small = omega (arith, c .t-small); frame = λ l. absurd (omega (arith, c .room-v .0)) }
+          record {
+            below = omega (arith, c .room-v .1, c .long);
+            other = λ z. c .differ (sym z ∙ a);
+            small = omega (arith, c .t-small);
+            frame =
+                λ l. absurd (omega (arith, c .room-v .0));
+          }
       go (inr (ne, m)) = still u e (c .long) (ok .entries u (c .room-u) e m)
 
-  opposed-at : (u v t o : ℕ) → Two j i u v t o → (e : Entry) → List·Memᴰ e (starOf i u) → 4 ≤ e .to → List·Memᴰ (entry u (opposite (e .kind))) (starOf i (e .to))
+  opposed-at : (u v t o : ℕ) → Two j i u v t o → (e : Entry) → List·Memᴰ e (starOf i u) → 4 ≤ e .to
+      → List·Memᴰ (entry u (opposite (e .kind))) (starOf i (e .to))
   opposed-at u v t o c e m l = go (c .into-u e m)
     where
       go : (e ≡ entry v t) ⊎ ((e .to ≡ v → ⊥) × List·Memᴰ e (starOf j u)) → List·Memᴰ (entry u (opposite (e .kind))) (starOf i (e .to))
@@ -136,7 +143,8 @@ module _ (j i : Job) (ok : Passes j) where
       good-of w r (no a) (yes b) = rw b (c .good-v)
       good-of w r (no a) (no b) = rw (c .same w a b) (ok .good w (old w r))
 
-      opposed-of : (w : ℕ) → Room i w → Dec (w ≡ u) → Dec (w ≡ v) → (e : Entry) → List·Memᴰ e (starOf i w) → 4 ≤ e .to → List·Memᴰ (entry w (opposite (e .kind))) (starOf i (e .to))
+      opposed-of : (w : ℕ) → Room i w → Dec (w ≡ u) → Dec (w ≡ v) → (e : Entry) → List·Memᴰ e (starOf i w) → 4 ≤ e .to
+          → List·Memᴰ (entry w (opposite (e .kind))) (starOf i (e .to))
       opposed-of w r (yes a) b e m l = rw a (opposed-at u v t o c e (rw a at m) l)
       opposed-of w r (no a) (yes b) e m l = rw b (opposed-at v u o t (swap c) e (rw b at m) l)
       opposed-of w r (no a) (no b) e m l = opposed-else u v t o c w (old w r) a b e (rw (c .same w a b) at m) l
@@ -183,7 +191,16 @@ module _ (j : Job) (a b : ℕ) (ra : Room j a) (rb : Room j b) (differ : a ≡ b
   -- putting the old stars back, in either order
   put-back : set (set put (a - 4) (starOf j a)) (b - 4) (starOf j b) ≡ j
   put-back =
-      rw (star-room j a (ra .0), star-room j b (rb .0), set-comm (set j (a - 4) A) (b - 4) (a - 4) B (getD j (a - 4) []) apart-ab, set-set j (a - 4) A (getD j (a - 4) []), set-getD j (a - 4) [], set-set j (b - 4) B (getD j (b - 4) []), set-getD j (b - 4) [])
+      rw (
+        star-room j a (ra .0),
+        star-room j b (rb .0),
+        set-comm (set j (a - 4) A) (b - 4) (a - 4) B (getD j (a - 4) []) apart-ab,
+        set-set j (a - 4) A
+            (getD j (a - 4) []),
+        set-getD j (a - 4) [],
+        set-set j (b - 4) B (getD j (b - 4) []),
+        set-getD j (b - 4) [],
+      )
 
   put-back′ : set (set put (b - 4) (starOf j b)) (a - 4) (starOf j a) ≡ j
   put-back′ = set-comm put (b - 4) (a - 4) (starOf j b) (starOf j a) apart-ab ∙ put-back
@@ -288,7 +305,8 @@ module _ (j : Job) (a b m : ℕ) (T : Turn j a b m) where
   again-b : turned next b a o ≡ j
   again-b =
       turned-is next b a o (opposite m) (not (T .last)) (rw star-b (T .swing-b .ends)) (turned-back (T .last) (opposite m) (opposite-small m (T .small)))
-      ∙ rw (star-a, star-b, opposite-opposite m (T .small), T .swing-a .back, T .swing-b .back) (put-back′ j a b (T .room-a) (T .room-b) (T .differ) (T .swing-a .star) (T .swing-b .star))
+      ∙ rw (star-a, star-b, opposite-opposite m (T .small), T .swing-a .back, T .swing-b .back) (put-back′ j a b (T .room-a) (T .room-b) (T .differ)
+      (T .swing-a .star) (T .swing-b .star))
 
   two-a : 2 ≤ length (listOf (starOf next a) t)
   two-a = rw (length-listOf (starOf next a) t, star-a) (T .swing-a .two)
@@ -308,7 +326,8 @@ module _ (j : Job) (a b m : ℕ) (T : Turn j a b m) where
   room-next w r = room-is next w (r .0, omega (arith, r .1, long))
 
 -- a turn asked for from either side, where both ways of asking give one answer
-asked-either : (i : Job) (u v k : ℕ) (r : Answer) → inContact i u v ≡ true → kindOf (starOf i u) v ≡ k → turnAt i u v k ≡ r → turnAt i v u (opposite k) ≡ r → turn i u v ≡ r
+asked-either : (i : Job) (u v k : ℕ) (r : Answer) → inContact i u v ≡ true → kindOf (starOf i u) v ≡ k → turnAt i u v k ≡ r
+    → turnAt i v u (opposite k) ≡ r → turn i u v ≡ r
 unfolding turn turnFrom
 asked-either i u v k r c e x y = past-true (inContact i u v) 11 _ c ∙ rw e (go (eqb k 0 || eqb k 3))
   where
@@ -321,10 +340,12 @@ turn-again : (j : Job) (a b m : ℕ) (T : Turn j a b m) → (turn (turned j a b 
 unfolding inContact
 turn-again j a b m T = rw (next-is j a b m T) (
   asked-either (next j a b m T) a b (t j a b m T) (drawn j)
-      (and-both _ _ (and-both _ _ (room-next j a b m T a (T .room-a)) (room-next j a b m T b (T .room-b))) (mem-names (starOf (next j a b m T) a) b (t j a b m T) (rw (star-a j a b m T) (T .swing-a .here))))
+      (and-both _ _ (and-both _ _ (room-next j a b m T a (T .room-a)) (room-next j a b m T b (T .room-b)))
+      (mem-names (starOf (next j a b m T) a) b (t j a b m T) (rw (star-a j a b m T) (T .swing-a .here))))
       (rw (star-a j a b m T) (T .swing-a .kind)) (at-a j a b m T) (rw (t-o j a b m T) (at-b j a b m T)),
   asked-either (next j a b m T) b a (o j a b m T) (drawn j)
-      (and-both _ _ (and-both _ _ (room-next j a b m T b (T .room-b)) (room-next j a b m T a (T .room-a))) (mem-names (starOf (next j a b m T) b) a (o j a b m T) (rw (star-b j a b m T) (T .swing-b .here))))
+      (and-both _ _ (and-both _ _ (room-next j a b m T b (T .room-b)) (room-next j a b m T a (T .room-a)))
+      (mem-names (starOf (next j a b m T) b) a (o j a b m T) (rw (star-b j a b m T) (T .swing-b .here))))
       (rw (star-b j a b m T) (T .swing-b .kind)) (at-b j a b m T) (rw (o-t j a b m T) (at-a j a b m T)),
 )
 
@@ -341,12 +362,17 @@ pub record Asked (j : Job) (u v : ℕ) (r : Answer) : Type 0 where
   pub many-b : 2 ≤ ofKind (opposite m) (starOf j b)
   pub is : drawn (turned j a b m) ≡ r
 
-turnAt-held : (j : Job) (a b m : ℕ) {i : Job} {q : Plan} → turnAt j a b m ≡ held i q → (2 ≤ ofKind m (starOf j a)) × (2 ≤ ofKind (opposite m) (starOf j b)) × (drawn (turned j a b m) ≡ held i q)
+turnAt-held : (j : Job) (a b m : ℕ) {i : Job} {q : Plan} → turnAt j a b m ≡ held i q
+    → (2 ≤ ofKind m (starOf j a)) × (2 ≤ ofKind (opposite m) (starOf j b)) × (drawn (turned j a b m) ≡ held i q)
 unfolding turnAt
 turnAt-held j a b m h =
     let (t, d) = past-held (leb 2 (length (listOf (starOf j a) m)) && leb 2 (length (listOf (starOf j b) (opposite m)))) 12 _ h in
-    let (x, y) = and-parts _ _ t in
-    (rw (length-listOf (starOf j a) m) at (leb-true 2 (length (listOf (starOf j a) m)) x), rw (length-listOf (starOf j b) (opposite m)) at (leb-true 2 (length (listOf (starOf j b) (opposite m))) y), d)
+    let (x, y) = and-parts _ _ t in (
+      rw (length-listOf (starOf j a) m) at (leb-true 2 (length (listOf (starOf j a) m)) x),
+      rw (length-listOf (starOf j b) (opposite m))
+          at (leb-true 2 (length (listOf (starOf j b) (opposite m))) y),
+      d,
+    )
 
 pub asked : (j : Job) (u v : ℕ) (i : Job) (q : Plan) → Passes j → turn j u v ≡ held i q → Asked j u v (held i q)
 unfolding turn turnFrom inContact
@@ -356,7 +382,8 @@ asked j u v i q ok h =
     let (x, y) = and-parts _ _ xy in
     go (eqb (kindOf (starOf j u) v) 0 || eqb (kindOf (starOf j u) v) 3) (is-room j u x) (is-room j v y) (kindOf-mem (starOf j u) v n) d
   where
-    go : (c : Bool) → Room j u → Room j v → List·Memᴰ (entry v (kindOf (starOf j u) v)) (starOf j u) → turnFrom c j u v (kindOf (starOf j u) v) ≡ held i q → Asked j u v (held i q)
+    go : (c : Bool) → Room j u → Room j v → List·Memᴰ (entry v (kindOf (starOf j u) v)) (starOf j u) → turnFrom c j u v (kindOf (starOf j u) v) ≡ held i q
+        → Asked j u v (held i q)
     go true ru rv m g =
         let (x, w, z) = turnAt-held j u v (kindOf (starOf j u) v) g in
         record { a = u; b = v; m = kindOf (starOf j u) v; who = inl (refl, refl); room-a = ru; room-b = rv; contact = m; many-a = x; many-b = w; is = z }
@@ -416,16 +443,30 @@ pub record Kept (j i : Job) : Type 0 where
 
 module _ (j : Job) (ok : Passes j) (p : Plan) (gp : GoodPlan j p) where
   -- the turned labelling, drawn or not, passes tests 4 to 6, has as many rooms and pairs, and joins the same pairs
-  pub turned-keeps : (a b m : ℕ) → Room j a → Room j b → List·Memᴰ (entry b m) (starOf j a) → 2 ≤ ofKind m (starOf j a) → 2 ≤ ofKind (opposite m) (starOf j b) → Kept j (turned j a b m)
+  pub turned-keeps : (a b m : ℕ) → Room j a → Room j b → List·Memᴰ (entry b m) (starOf j a) → 2 ≤ ofKind m (starOf j a)
+      → 2 ≤ ofKind (opposite m) (starOf j b) → Kept j (turned j a b m)
   turned-keeps a b m ra rb i ha hb =
       let T : Turn j a b m = turn-of j ok p gp a b m ra rb i ha hb in
-      rw (next-is j a b m T) (record { passes = two-passes j (next j a b m T) ok a b (t j a b m T) (o j a b m T) (turn-two j a b m T); rooms = long j a b m T; pairs = turn-pairs j a b m T; joins = turn-joined j a b m T })
+      rw (next-is j a b m T) (record {
+        passes = two-passes j (next j a b m T) ok a b (t j a b m T) (o j a b m T) (turn-two j a b m T);
+        rooms = long j a b m T;
+        pairs = turn-pairs j a b m T;
+        joins = turn-joined j a b m T;
+      })
 
   -- TURNED AGAIN AT ONCE, in either order of the two numbers: the job, drawn again
-  pub turned-restores : (u v : ℕ) (r : Answer) (k : Asked j u v r) → (turn (turned j (k .a) (k .b) (k .m)) u v ≡ drawn j) × (turn (turned j (k .a) (k .b) (k .m)) v u ≡ drawn j)
-  turned-restores u v r k = go (k .a) (k .b) (k .who) (turn-again j (k .a) (k .b) (k .m) (turn-of j ok p gp (k .a) (k .b) (k .m) (k .room-a) (k .room-b) (k .contact) (k .many-a) (k .many-b)))
+  pub turned-restores : (u v : ℕ) (r : Answer) (k : Asked j u v r)
+      → (turn (turned j (k .a) (k .b) (k .m)) u v ≡ drawn j) × (turn (turned j (k .a) (k .b) (k .m)) v u ≡ drawn j)
+  turned-restores u v r k = go (k .a) (k .b) (k .who) (turn-again j (k .a) (k .b) (k .m) (turn-of j ok p gp (k .a) (k .b) (k .m) (k .room-a) (k .room-b)
+      (k .contact) (k .many-a) (k .many-b)))
     where
       go : (a b : ℕ) → ((a ≡ u) × (b ≡ v)) ⊎ ((a ≡ v) × (b ≡ u)) → (turn (turned j a b (k .m)) a b ≡ drawn j) × (turn (turned j a b (k .m)) b a ≡ drawn j)
           → (turn (turned j a b (k .m)) u v ≡ drawn j) × (turn (turned j a b (k .m)) v u ≡ drawn j)
-      go a b (inl (x, y)) s = (ap (λ z. turn (turned j a b (k .m)) z v) (sym x) ∙ ap (λ z. turn (turned j a b (k .m)) a z) (sym y) ∙ s .0, ap (λ z. turn (turned j a b (k .m)) v z) (sym x) ∙ ap (λ z. turn (turned j a b (k .m)) z a) (sym y) ∙ s .1)
-      go a b (inr (x, y)) s = (ap (λ z. turn (turned j a b (k .m)) z v) (sym y) ∙ ap (λ z. turn (turned j a b (k .m)) b z) (sym x) ∙ s .1, ap (λ z. turn (turned j a b (k .m)) z u) (sym x) ∙ ap (λ z. turn (turned j a b (k .m)) a z) (sym y) ∙ s .0)
+      go a b (inl (x, y)) s = (
+        ap (λ z. turn (turned j a b (k .m)) z v) (sym x) ∙ ap (λ z. turn (turned j a b (k .m)) a z) (sym y) ∙ s .0,
+        ap (λ z. turn (turned j a b (k .m)) v z) (sym x) ∙ ap (λ z. turn (turned j a b (k .m)) z a) (sym y) ∙ s .1,
+      )
+      go a b (inr (x, y)) s = (
+        ap (λ z. turn (turned j a b (k .m)) z v) (sym y) ∙ ap (λ z. turn (turned j a b (k .m)) b z) (sym x) ∙ s .1,
+        ap (λ z. turn (turned j a b (k .m)) z u) (sym x) ∙ ap (λ z. turn (turned j a b (k .m)) a z) (sym y) ∙ s .0,
+      )

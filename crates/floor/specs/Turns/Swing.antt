@@ -1,11 +1,12 @@
 -- One star when the entry at a list's end takes the next kind, or the kind before: it passes test 5 again, and turning the entry back gives the same star.
 -- Assumes nothing.
-use Prim.Native.Nat.{ℕ, zero, suc, _+_, _-_, _*_, _%_, _≤_, _<_}
+use Prim.Native.Nat.{ℕ, zero, suc, _+_, _-_, _≤_, _<_}
 use mathlib.Core.Path.{_≡_, refl, sym, ap, _∙_}
 use mathlib.Core.Logic.{_⊎_, inl, inr}
 use mathlib.Core.Bool.{Bool, true, false, cond, not, _&&_}
-use mathlib.Core.List.{List, [], _∷_, _++_, map, append-nil, List·Memᴰ, List·Memᴰ·head, List·Memᴰ·tail, List·Memᴰ·not-nil, List·Memᴰ·cases-cons, Memᴰ·append-left, Memᴰ·append-right, List·Memᴰ·append-cases}
-use lib.ListN.{length, take, drop, length-append, length-map}
+use mathlib.Core.List.{List, [], _∷_, _++_, map, append-nil, List·Memᴰ, List·Memᴰ·head, List·Memᴰ·tail, List·Memᴰ·not-nil, List·Memᴰ·cases-cons}
+use mathlib.Core.List.{Memᴰ·append-left, Memᴰ·append-right, List·Memᴰ·append-cases}
+use lib.ListN.{length, length-append, length-map}
 use lib.Seq.{take-at, drop-at}
 use lib.Dec.{eqb}
 use native.Mathlib.Omega.{arith}
@@ -14,7 +15,8 @@ use borrow.Author.Tests.{eqb-true, eqb-false, eq-eqb, ne-eqb}
 use Rattle.floor.specs.Lists.{keep, isFirst, isLast}
 use Rattle.floor.specs.Lists.Laws.{no-false, bit, count, count-nil, count-cons, count-append, mem-count, count-none}
 use Rattle.floor.specs.Jobs.{Entry, Star, kindOf, listOf}
-use Rattle.floor.specs.Jobs.Stars.{entry, named, ofKind, least-down, most-up, AtLeast, AtMost, Sorted, GoodStar, mem-most, small-mem, kind-other, kind-mem, kindOf-mid}
+use Rattle.floor.specs.Jobs.Stars.{entry, named, ofKind, least-down, most-up, AtLeast, AtMost, Sorted, GoodStar, mem-most, small-mem, kind-other}
+use Rattle.floor.specs.Jobs.Stars.{kind-mem, kindOf-mid}
 use Rattle.floor.specs.Turns.{turnedKind, withKind, rekinded}
 
 -- order
@@ -131,7 +133,8 @@ unfolding keep
 keep-append p [] Q = refl
 keep-append p (d ∷ P) Q = go (p d) refl (keep-append p P Q)
   where
-    go : (b : Bool) → p d ≡ b → keep p (P ++ Q) ≡ keep p P ++ keep p Q → cond (p d) (d ∷ keep p (P ++ Q)) (keep p (P ++ Q)) ≡ cond (p d) (d ∷ keep p P) (keep p P) ++ keep p Q
+    go : (b : Bool) → p d ≡ b → keep p (P ++ Q) ≡ keep p P ++ keep p Q → cond (p d) (d ∷ keep p (P ++ Q)) (keep p (P ++ Q)) ≡ cond (p d) (d ∷ keep p P)
+        (keep p P) ++ keep p Q
     go true e below = rw (e, below)
     go false e below = rw (e, below)
 
@@ -143,7 +146,8 @@ pub listOf-mid : (P : Star) (v k : ℕ) (Q : Star) → listOf (P ++ entry v k �
 unfolding listOf keep
 listOf-mid P v k Q =
     let e : eqb k k ≡ true = eq-eqb k k refl in
-    let a : keep (λ e. eqb (e .kind) k) (P ++ entry v k ∷ Q) ≡ keep (λ e. eqb (e .kind) k) P ++ keep (λ e. eqb (e .kind) k) (entry v k ∷ Q) = keep-append (λ e. eqb (e .kind) k) P (entry v k ∷ Q) in
+    let a : keep (λ e. eqb (e .kind) k) (P ++ entry v k ∷ Q) ≡ keep (λ e. eqb (e .kind) k) P ++ keep (λ e. eqb (e .kind) k) (entry v k ∷ Q) =
+    keep-append (λ e. eqb (e .kind) k) P (entry v k ∷ Q) in
     rw (a, map-append, e)
 
 pub length-listOf : (s : Star) (k : ℕ) → length (listOf s k) ≡ ofKind k s
@@ -221,7 +225,14 @@ rekinded-front : (v : ℕ) (P : Star) → named v P ≡ 0 → rekinded (P ++ ent
 unfolding rekinded withKind kindOf
 rekinded-front v P p =
     let n : length (P ++ entry v 3 ∷ []) - 1 ≡ length P = omega (arith, length-append P (entry v 3 ∷ [])) in
-    rw (kindOf-mid P v 3 [] p, ends, change-mid P v 3 0 [] p (count-nil (λ (d : Entry). eqb (d .to) v)), n, drop-at P (entry v 0 ∷ []) (length P), take-at P (entry v 0 ∷ []) (length P))
+    rw (
+      kindOf-mid P v 3 [] p,
+      ends,
+      change-mid P v 3 0 [] p (count-nil (λ (d : Entry). eqb (d .to) v)),
+      n,
+      drop-at P (entry v 0 ∷ []) (length P),
+      take-at P (entry v 0 ∷ []) (length P),
+    )
   where
     ends : isLast v (map (λ (e : Entry). e .to) (P ++ entry v 3 ∷ [])) ≡ true
     ends = rw (map-append P (entry v 3 ∷ [])) (last-append (map (λ (e : Entry). e .to) P) v [] ∙ (unfold isLast in eq-eqb v v refl))
@@ -289,7 +300,8 @@ module _ (P Q : Star) (v k : ℕ) (g : GoodStar (P ++ entry v k ∷ Q)) where
         go : Dec (k ≡ m) → Dec (t ≡ m) → 1 ≤ ofKind m (P′ ++ entry v t ∷ Q′)
         go (yes a) b = rw (← a) (omega (arith, new-kind k, more))
         go (no a) (yes b) = let c : ofKind m (P′ ++ entry v t ∷ Q′) ≡ 1 + ofKind m (P ++ Q) = rw (eq-eqb t m b) at (new-kind m) in omega arith
-        go (no a) (no b) = let c : ofKind m (P ++ entry v k ∷ Q) ≡ 0 + ofKind m (P ++ Q) = rw (ne-eqb k m a) at (old-kind m) in omega (arith, g .has m h, new-kind m)
+        go (no a) (no b) = let c : ofKind m (P ++ entry v k ∷ Q) ≡ 0 + ofKind m (P ++ Q) =
+            rw (ne-eqb k m a) at (old-kind m) in omega (arith, g .has m h, new-kind m)
 
     once-of : (e : Entry) → (e ≡ entry v t) ⊎ List·Memᴰ e (P ++ Q) → named (e .to) (P′ ++ entry v t ∷ Q′) ≡ 1
     once-of e (inl q) =
@@ -374,7 +386,8 @@ module _ (P Q : Star) (v : ℕ) where
       let high : AtLeast (suc k) Q = least-strict k Q (sorted-high P (entry v k) Q (g .sorted)) none in
       let p : named v P ≡ 0 = named-front P Q v k g in
       let q : named v Q ≡ 0 = named-back P Q v k g in
-      let c : ofKind (suc k) (P ++ entry v k ∷ Q) ≡ ofKind (suc k) P + ofKind (suc k) (entry v k ∷ Q) = count-append (λ (e : Entry). eqb (e .kind) (suc k)) P (entry v k ∷ Q) in
+      let c : ofKind (suc k) (P ++ entry v k ∷ Q) ≡ ofKind (suc k) P + ofKind (suc k) (entry v k ∷ Q) =
+      count-append (λ (e : Entry). eqb (e .kind) (suc k)) P (entry v k ∷ Q) in
       let n : 1 ≤ ofKind (suc k) Q = omega (arith, g .has (suc k) lt, kind-other v k (suc k) Q (λ e. omega arith), most-none k (suc k) P (omega arith) low) in
       swing-of P Q v k g P Q (suc k) false refl (λ e. omega arith) lt
       (omega (arith, count-append (λ (e : Entry). eqb (e .kind) k) P Q))
@@ -383,7 +396,8 @@ module _ (P Q : Star) (v : ℕ) where
       (ne-eqb (ofKind (suc k) Q) 0 (λ e. omega arith))
 
   -- the first of a list becomes the last of the one before
-  astern : (k : ℕ) → k < 3 → GoodStar (P ++ entry v (suc k) ∷ Q) → ofKind (suc k) P ≡ 0 → 1 ≤ ofKind (suc k) Q → Swing (P ++ entry v (suc k) ∷ Q) v (suc k) k true
+  astern : (k : ℕ) → k < 3 → GoodStar (P ++ entry v (suc k) ∷ Q) → ofKind (suc k) P ≡ 0 → 1 ≤ ofKind (suc k) Q
+      → Swing (P ++ entry v (suc k) ∷ Q) v (suc k) k true
   astern k lt g none some =
       let low : AtMost k P = most-strict k P (sorted-low P (entry v (suc k)) Q (g .sorted)) none in
       let high : AtLeast (suc k) Q = sorted-high P (entry v (suc k)) Q (g .sorted) in
@@ -432,7 +446,8 @@ AtEnd true P Q k = (ofKind k Q ≡ 0) × (1 ≤ ofKind k P)
 AtEnd false P Q k = (ofKind k P ≡ 0) × (1 ≤ ofKind k Q)
 
 -- THE ENTRY AT A LIST'S END TURNED, at any kind: the last becomes first of the next list, the first last of the list before
-pub swing : (l : Bool) (P Q : Star) (v k : ℕ) → k ≤ 3 → GoodStar (P ++ entry v k ∷ Q) → AtEnd l P Q k → Swing (P ++ entry v k ∷ Q) v k (turnedKind k l) (not l)
+pub swing : (l : Bool) (P Q : Star) (v k : ℕ) → k ≤ 3 → GoodStar (P ++ entry v k ∷ Q) → AtEnd l P Q k
+    → Swing (P ++ entry v k ∷ Q) v k (turnedKind k l) (not l)
 unfolding turnedKind
 swing true P Q v zero h g e = ahead P Q v 0 (omega arith) g (e .0) (e .1)
 swing true P Q v (suc zero) h g e = ahead P Q v 1 (omega arith) g (e .0) (e .1)

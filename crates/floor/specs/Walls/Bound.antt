@@ -1,14 +1,14 @@
 -- How large a number can be: 1 plus what the heads of the `before` rules have room for. W1: n + 1, where the heads are the right sides of n rooms.
 -- Assumes nothing.
-use mathlib.Core.Path.{_≡_, refl, sym, ap, subst}
+use mathlib.Core.Path.{_≡_, refl}
 use mathlib.Core.Bool.{Bool, true, false}
 use mathlib.Core.List.{List, [], _∷_, List·Memᴰ, List·Memᴰ·head, List·Memᴰ·tail}
-use Prim.Native.Nat.{ℕ, zero, suc, _+_, _≤_, _<_}
+use Prim.Native.Nat.{ℕ, suc, _+_, _≤_, _<_}
 use native.Mathlib.Omega.{arith}
 use lib.Dec.{leb}
-use borrow.Author.Tests.{leb-true, leb-false, le-leb, lt-leb}
-use Rattle.floor.specs.Walls.{Rule, same, before, Holds, Respects, Circle}
-use Rattle.floor.specs.Walls.Walk.{Walk, start, on, off, up, Positive, walk-le}
+use borrow.Author.Tests.{leb-true, le-leb, lt-leb}
+use Rattle.floor.specs.Walls.{Rule, same, before, Respects}
+use Rattle.floor.specs.Walls.Walk.{Walk, start, on, off, up}
 
 -- a side at which `before` rules end, with the largest gap of those
 pub record Head : Type 0 where

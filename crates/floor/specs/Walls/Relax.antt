@@ -1,21 +1,21 @@
 -- Passes over the rules that raise numbers, as a computation; that they end in the numbers of the definition, or show a circle.
 -- Assumes nothing.
-use mathlib.Core.Path.{_≡_, refl, sym, ap, _∙_, subst}
-use mathlib.Core.Bool.{Bool, true, false, _&&_, _||_}
-use mathlib.Core.Logic.{_⊎_, inl, inr, _≢_}
+use mathlib.Core.Path.{_≡_, refl, sym, ap, _∙_}
+use mathlib.Core.Bool.{Bool, true, false}
+use mathlib.Core.Logic.{_⊎_, inl, inr}
 use mathlib.Core.Option.{Option, none, some}
 use mathlib.Core.List.{List, [], _∷_, List·Memᴰ, List·Memᴰ·head, List·Memᴰ·tail}
 use Prim.Native.Nat.{ℕ, zero, suc, _+_, _*_, _≤_, _<_, max}
 use native.Mathlib.Nat.{add-zero, suc-mul}
 use native.Mathlib.Omega.{arith}
 use native.Mathlib.Decide.{decLe, decLt, ℕ-discrete}
-use lib.Dec.{leb, ltb, eqb}
+use lib.Dec.{ltb}
 use lib.ListN.{length, getD, set, replicate, length-set, length-replicate, getD-replicate, List·getD-eq-default}
 use lib.Seq.{getD-set-same, getD-set-other, set-out, set-getD, ext-getD}
 use borrow.Author.Tests.{leb-true, leb-false, eqb-true, eqb-false, ltb-true, ltb-false}
 use Rattle.floor.specs.Lists.Laws.{and-left, and-right}
 use Rattle.floor.specs.Walls.{Rule, same, before, Numbers, Holds, Respects, Circle, at, raise, relax1, relax, met, meets, over, passes, numbersOf}
-use Rattle.floor.specs.Walls.Walk.{Walk, start, on, off, up, Positive, walk-le, tight, unique, numbers-respects, numbers-positive}
+use Rattle.floor.specs.Walls.Walk.{Walk, start, on, off, up, tight, unique, numbers-respects}
 use Rattle.floor.specs.Walls.Bound.{Head, Heads, all-room, walk-bound}
 
 pub length-raise : (f : List ℕ) (a b w : ℕ) → length (raise f a b w) ≡ length f
@@ -34,7 +34,8 @@ pub raise-is : (f : List ℕ) (a b w s : ℕ) → (at (raise f a b w) s ≡ at f
 unfolding raise
 raise-is f a b w s = go (ℕ-discrete s b)
   where
-    within : s ≡ b → Dec (b < length f) → (max (at f b) (at f a + w) ≡ at f b) ⊎ (max (at f b) (at f a + w) ≡ at f a + w) → (at (set f b (max (at f b) (at f a + w))) s ≡ at f s) ⊎ ((s ≡ b) × (at (set f b (max (at f b) (at f a + w))) s ≡ at f a + w))
+    within : s ≡ b → Dec (b < length f) → (max (at f b) (at f a + w) ≡ at f b) ⊎ (max (at f b) (at f a + w) ≡ at f a + w)
+        → (at (set f b (max (at f b) (at f a + w))) s ≡ at f s) ⊎ ((s ≡ b) × (at (set f b (max (at f b) (at f a + w))) s ≡ at f a + w))
     within e (yes l) (inl k) = inl (rw e (getD-set-same f b (max (at f b) (at f a + w)) 1 l ∙ k))
     within e (yes l) (inr k) = inr (e, rw e (getD-set-same f b (max (at f b) (at f a + w)) 1 l ∙ k))
     within e (no l) k = inl (ap (λ (t : List ℕ). at t s) (set-out f b (max (at f b) (at f a + w)) (omega arith)))

@@ -1,6 +1,6 @@
 -- A job's rules, room by room and entry by entry; that its computed numbers are those of the text, the least there are, and at most n + 1.
 -- Assumes nothing.
-use mathlib.Core.Path.{_≡_, refl, sym, ap, _∙_}
+use mathlib.Core.Path.{_≡_, refl, ap}
 use mathlib.Core.Logic.{_⊎_, inl, inr}
 use mathlib.Core.Bool.{Bool, true, false, _&&_}
 use mathlib.Core.Option.{Option, none, some}
@@ -12,9 +12,10 @@ use lib.Dec.{leb, eqb}
 use lib.ListN.{length, getD}
 use borrow.Author.Tests.{leb-true, eqb-true, eq-eqb, le-leb}
 use Rattle.floor.specs.Lists.Laws.{and-parts, and-both}
-use Rattle.floor.specs.Jobs.{Entry, Star, Job, starOf}
+use Rattle.floor.specs.Jobs.{Entry, Star, Job}
 use Rattle.floor.specs.Jobs.Facts.{Passes, star-at}
-use Rattle.floor.specs.Walls.{Rule, same, before, Numbers, Holds, Respects, Axis, low, high, when, entryRules, starRules, rulesFrom, rules, at, jobNumbers}
+use Rattle.floor.specs.Walls.{Rule, same, before, Numbers, Holds, Respects, Axis, low, high, when, entryRules, starRules, rulesFrom, rules, at}
+use Rattle.floor.specs.Walls.{jobNumbers}
 use Rattle.floor.specs.Walls.Walk.{Positive, walk-le, numbers-walk, numbers-respects}
 use Rattle.floor.specs.Walls.Bound.{Head, Heads, all-room, walk-bound}
 use Rattle.floor.specs.Walls.Relax.{Right, Within, numbersOf-right}
@@ -70,11 +71,13 @@ module _ (P : Rule → Type 0) where
     unfolding entryRules
     entry-asks u e r = record {
       if-far = λ k. r _ (Memᴰ·append-left _ (when-mem (eqb (e .kind) (a .far)) _ _ (eq-eqb (e .kind) (a .far) k) (List·Memᴰ·head refl)));
-      if-near = λ k. r _ (Memᴰ·append-right (when (eqb (e .kind) (a .far)) _) (Memᴰ·append-left _ (when-mem (eqb (e .kind) (a .near)) _ _ (eq-eqb (e .kind) (a .near) k) (List·Memᴰ·head refl))));
+      if-near = λ k. r _ (Memᴰ·append-right (when (eqb (e .kind) (a .far)) _)
+          (Memᴰ·append-left _ (when-mem (eqb (e .kind) (a .near)) _ _ (eq-eqb (e .kind) (a .near) k) (List·Memᴰ·head refl))));
       if-cross = λ k l. (r _ (cross k l _ (List·Memᴰ·head refl)), r _ (cross k l _ (List·Memᴰ·tail (List·Memᴰ·head refl))));
     }
       where
-        cross : e .kind ≡ a .cross → 4 ≤ e .to → (q : Rule) → List·Memᴰ q (before (low u) (high (e .to)) 0 ∷ before (low (e .to)) (high u) 0 ∷ []) → List·Memᴰ q (entryRules a u e)
+        cross : e .kind ≡ a .cross → 4 ≤ e .to → (q : Rule) → List·Memᴰ q (before (low u) (high (e .to)) 0 ∷ before (low (e .to)) (high u) 0 ∷ [])
+            → List·Memᴰ q (entryRules a u e)
         cross k l q m =
             Memᴰ·append-right (when (eqb (e .kind) (a .far)) (same (high u) (low (e .to)) ∷ []))
             (Memᴰ·append-right (when (eqb (e .kind) (a .near)) (same (high (e .to)) (low u) ∷ []))
@@ -153,7 +156,8 @@ unfolding heads
 heads-mem u zero v l h = absurd (omega arith)
 heads-mem u (suc k) v l h = go (ℕ-discrete v u) (heads-mem (suc u) k v)
   where
-    go : Dec (v ≡ u) → (suc u ≤ v → v < suc u + k → List·Memᴰ (record { side = high v; most = 1 }) (heads (suc u) k)) → List·Memᴰ (record { side = high v; most = 1 }) (record { side = high u; most = 1 } ∷ heads (suc u) k)
+    go : Dec (v ≡ u) → (suc u ≤ v → v < suc u + k → List·Memᴰ (record { side = high v; most = 1 }) (heads (suc u) k)) → List·Memᴰ
+        (record { side = high v; most = 1 }) (record { side = high u; most = 1 } ∷ heads (suc u) k)
     go (yes e) below = List·Memᴰ·head (ap (λ (t : ℕ). record { side = high t; most = 1 }) e)
     go (no e) below = List·Memᴰ·tail (below (omega arith) (omega arith))
 
@@ -166,12 +170,15 @@ module _ (a : Axis) (j : Job) (k : Passes j) where
   sane = told-every (Sane (length j + 4)) a 4 j (record {
     own = λ i h. (omega arith, omega arith, refl, (4 + i, omega arith, omega arith, refl));
     each = λ i h e m.
-      let l : e .to < length j + 4 = to-vertex j k i h e m in
-      record {
-        if-far = λ q. (omega arith, omega arith);
-        if-near = λ q. (omega arith, omega arith);
-        if-cross = λ q f. ((omega arith, omega arith, refl, (e .to, f, l, refl)), (omega arith, omega arith, refl, (4 + i, omega arith, omega arith, refl)));
-      };
+        let l : e .to < length j + 4 = to-vertex j k i h e m in
+        record {
+          if-far = λ q. (omega arith, omega arith);
+          if-near = λ q. (omega arith, omega arith);
+          if-cross = λ q f. (
+            (omega arith, omega arith, refl, (e .to, f, l, refl)),
+            (omega arith, omega arith, refl, (4 + i, omega arith, omega arith, refl)),
+          );
+        };
   })
 
   job-heads : Heads (rules a j) (heads 4 (length j))
@@ -192,7 +199,12 @@ module _ (a : Axis) (j : Job) (k : Passes j) where
   -- NO NUMBER PASSES n + 1
   pub job-bound : (f : ℕ → ℕ) → Numbers (rules a j) f → (s : ℕ) → f s ≤ 1 + length j
   job-bound f n s =
-      omega (arith, heads-room 4 (length j), walk-bound (rules a j) (heads 4 (length j)) f job-heads (numbers-respects (rules a j) f n) (numbers-walk (rules a j) f n s))
+      omega (
+        arith,
+        heads-room 4 (length j),
+        walk-bound (rules a j) (heads 4 (length j)) f job-heads (numbers-respects (rules a j) f n)
+            (numbers-walk (rules a j) f n s),
+      )
 
   -- numbers that respect the rules show that the job has its numbers
   pub numbered : (g : ℕ → ℕ) → Respects (rules a j) g → (f : List ℕ) × (jobNumbers a j ≡ some f)
