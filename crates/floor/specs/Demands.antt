@@ -18,12 +18,12 @@ use Rattle.floor.specs.Plans.Held.{seven, nine, width-bound, height-boun
 use Rattle.floor.specs.Floor.{Shares, Joined, Floor}
 use Rattle.floor.specs.Floor.Joins.{joined-of, of-joined}
 use Rattle.floor.specs.Floor.Draws.{shares-of, of-shares}
-use Rattle.floor.specs.Turns.{turned}
+use Rattle.floor.specs.Turns.{turned, turn}
 use Rattle.floor.specs.Turns.Restore.{Kept, turned-keeps}
 use Rattle.floor.specs.Calls.{load, Board, empty, holding, Call, loads, turns, refusal, done, lent, sharing, step, run}
-use Rattle.floor.specs.Calls.Sound.{Sound, sound-good, any-calls-sound}
+use Rattle.floor.specs.Calls.Sound.{Sound, some-room, sound-good, any-calls-sound}
 use Rattle.floor.specs.Calls.Effects.{Left, refused-leaves, write-load, load-write, Restored, turn-turn}
-use Rattle.floor.specs.Calls.Exact.{Numbered, drawn-numbered, Accepted, accepted, Answers, load-answers}
+use Rattle.floor.specs.Calls.Exact.{Numbered, drawn-numbered, Accepted, accepted, Answers, load-answers, Turned, turned-exactly}
 
 -- DEMAND 1. Every job, however damaged or contradictory, gets an answer: a plan or one numbered refusal.
 pub every-job-answered : (bs : List ℕ) → Answers 1 9 (load bs)
@@ -37,41 +37,45 @@ refusal-leaves = refused-leaves
 pub accepted-exactly : (bs : List ℕ) (j : Job) (p : Plan) → (load bs ≡ held j p) ↔ Accepted bs j p
 accepted-exactly = accepted
 
--- It is refused as a circle exactly if no whole numbers can be put on the walls.
+-- Walls run in a circle exactly if no whole numbers can be put on them that respect every "before".
 pub circle-exactly : (j : Job) → Passes j → (drawn j ≡ refused 7) ↔ (Circle (rules upright j) ⊎ Circle (rules level j))
 circle-exactly = seven
 
--- Jobs written out and read back are the same job, whatever board they are loaded into; an accepted job read and written is the same bytes.
+-- A turn is accepted exactly when the written rules allow it; it then changes the kind of that one contact, and the plan is numbered afresh.
+pub turn-accepted-exactly : (cs : List Call) (j : Job) (p : Plan) → run empty cs ≡ holding j p
+    → (u v : ℕ) (i : Job) (q : Plan) → (turn j u v ≡ held i q) ↔ Turned j u v i q
+turn-accepted-exactly cs j p h = turned-exactly j p (any-calls-sound cs j p h)
+
+-- A job written out and read back is the same job, whatever board it is loaded into.
 pub written-and-read : (cs : List Call) (j : Job) (p : Plan) → run empty cs ≡ holding j p → (b : Board) → step b (loads (writeJob j)) .board ≡ holding j p
 written-and-read cs j p h b = write-load b j p (any-calls-sound cs j p h)
 
+-- An accepted job read and written is the same bytes.
 pub read-and-written : (bs : List ℕ) (j : Job) (p : Plan) → Bytes bs → load bs ≡ held j p → writeJob j ≡ bs
 read-and-written = load-write
 
--- DEMAND 3. Start from an empty board and make any calls. Whenever a plan is held, it is a floor plan for the job now held: each unit cell in exactly one
--- rectangle,
--- no point in four, two share a wall exactly if joined, neighbours in the order held.
+-- DEMAND 3. Start from an empty board and make any calls. Whenever a plan is held, it is a floor plan for the job now held: each cell in exactly one
+-- rectangle, no point in four, two share a wall exactly if joined, neighbours in the order held.
 pub any-calls-floor : (cs : List Call) (j : Job) (p : Plan) → run empty cs ≡ holding j p → Floor j p
 any-calls-floor cs j p h = sound-good j p (any-calls-sound cs j p h) .floor
 
--- Its rectangles carry the wall numbers of that very job,
+-- Its rectangles carry the wall numbers of that very job.
 pub any-calls-numbers : (cs : List Call) (j : Job) (p : Plan) → run empty cs ≡ holding j p → Numbered j p
 any-calls-numbers cs j p h = let s : Sound j p = any-calls-sound cs j p h in drawn-numbered j (s .passes) p (s .is-drawn)
 
--- and the sheet is never wider or higher than the number of rooms plus 2.
+-- The sheet is never wider or higher than the number of rooms plus 2.
 pub any-calls-bound : (cs : List Call) (j : Job) (p : Plan) → run empty cs ≡ holding j p → (p .width ≤ length j + 2) × (p .height ≤ length j + 2)
 any-calls-bound cs j p h =
     let s : Sound j p = any-calls-sound cs j p h in
     let n : Numbered j p = drawn-numbered j (s .passes) p (s .is-drawn) in
     rw (n .is-plan) (
       width-bound j (s .passes) (n .xs) (n .ys) (n .are-upright) (n .are-level),
-      height-bound j (s .passes) (n .xs) (n .ys)
-          (n .are-upright) (n .are-level),
+      height-bound j (s .passes) (n .xs) (n .ys) (n .are-upright) (n .are-level),
     )
 
--- The question whether two vertices share a wall is answered yes exactly if the job joins them or they are neighbouring sides of the frame.
-pub any-calls-share : (cs : List Call) (j : Job) (p : Plan) → run empty cs ≡ holding j p → (u v : ℕ) → Vertex j u → Vertex j v → (u ≡ v → ⊥)
-    → sharing p u v ≡ joined j u v
+-- Asked whether two vertices share a wall, it says yes exactly if the job joins them or they are neighbouring sides of the frame.
+pub any-calls-share : (cs : List Call) (j : Job) (p : Plan) → run empty cs ≡ holding j p
+    → (u v : ℕ) → Vertex j u → Vertex j v → (u ≡ v → ⊥) → sharing p u v ≡ joined j u v
 unfolding sharing
 any-calls-share cs j p h u v hu hv ne = rw (ne-eqb u v ne) (same-test (share (rectOf p u) (rectOf p v)) (joined j u v) forth back)
   where
@@ -84,21 +88,25 @@ any-calls-share cs j p h u v hu hv ne = rw (ne-eqb u v ne) (same-test (share (re
     back : joined j u v ≡ true → share (rectOf p u) (rectOf p v) ≡ true
     back e = of-shares (rectOf p u) (rectOf p v) (same .1 (joined-of j u v e))
 
--- A job that has passed every earlier test is refused as undrawable exactly when its numbered rectangles break one of these,
+-- A job that has passed every earlier test is refused as undrawable exactly when its numbered rectangles break one of these.
 pub undrawable-exactly : (j : Job) → Passes j → 0 < length j → (f g : List ℕ) → jobNumbers upright j ≡ some f → jobNumbers level j ≡ some g
-    → test8 (planOf j (at f) (at g)) ≡ true
-    → (drawn j ≡ refused 9) ↔ (Floor j (planOf j (at f) (at g)) → ⊥)
+    → test8 (planOf j (at f) (at g)) ≡ true → (drawn j ≡ refused 9) ↔ (Floor j (planOf j (at f) (at g)) → ⊥)
 undrawable-exactly j ok h = nine j ok h
 
--- and so is a turned labelling: b on side m of a, at least two on either list. It passes tests 4 to 6, has as many pairs, and joins the same.
+-- A turned labelling (b on side m of a, at least two on either list) passes tests 4 to 6, has as many rooms and pairs, and joins the same pairs; so it too
+-- is refused as undrawable exactly when its own numbered rectangles break one of these.
 pub turned-labelling : (cs : List Call) (j : Job) (p : Plan) → run empty cs ≡ holding j p → (a b m : ℕ) → Room j a → Room j b
-    → List·Memᴰ (entry b m) (starOf j a)
-    → 2 ≤ ofKind m (starOf j a) → 2 ≤ ofKind (opposite m) (starOf j b) → Kept j (turned j a b m)
+    → List·Memᴰ (entry b m) (starOf j a) → 2 ≤ ofKind m (starOf j a) → 2 ≤ ofKind (opposite m) (starOf j b) → Kept j (turned j a b m)
 turned-labelling cs j p h = let s : Sound j p = any-calls-sound cs j p h in turned-keeps j (s .passes) p (sound-good j p s)
 
--- An accepted turn made again at once, with no other call that changes the plan between, is accepted and gives back the plan before it, in either order of
--- the numbers.
-pub turned-again : (cs ds : List Call) (j : Job) (p : Plan) (u v : ℕ) → run empty cs ≡ holding j p → step (holding j p) (turns u v) .reply ≡ done
-    → (b : Board) → b ≡ step (holding j p) (turns u v) .board → run b ds ≡ b → Restored (holding j p) (step (run b ds) (turns u v)) × Restored
-    (holding j p) (step (run b ds) (turns v u))
-turned-again cs ds j p u v h e b q r = rw (r, q) (turn-turn j p u v (any-calls-sound cs j p h) e)
+pub turned-undrawable-exactly : (cs : List Call) (j : Job) (p : Plan) → run empty cs ≡ holding j p → (i : Job) → Kept j i
+    → (f g : List ℕ) → jobNumbers upright i ≡ some f → jobNumbers level i ≡ some g
+    → test8 (planOf i (at f) (at g)) ≡ true → (drawn i ≡ refused 9) ↔ (Floor i (planOf i (at f) (at g)) → ⊥)
+turned-undrawable-exactly cs j p h i k = nine i (k .passes) (rw (k .rooms) (some-room j p (any-calls-sound cs j p h)))
+
+-- An accepted turn made again at once, with no other call that changes the plan between, is accepted and gives back the plan before it, whichever of the
+-- two numbers is named first.
+pub turned-again : (cs ds : List Call) (j : Job) (p : Plan) (u v : ℕ) (b : Board) → run empty cs ≡ holding j p
+    → step (holding j p) (turns u v) .reply ≡ done → b ≡ step (holding j p) (turns u v) .board → run b ds ≡ b
+    → Restored (holding j p) (step (run b ds) (turns u v)) × Restored (holding j p) (step (run b ds) (turns v u))
+turned-again cs ds j p u v b h e q r = rw (r, q) (turn-turn j p u v (any-calls-sound cs j p h) e)

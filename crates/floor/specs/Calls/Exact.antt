@@ -1,25 +1,31 @@
 -- Exactly which labellings are drawn and which jobs are loaded, by the text's numbers alone; and that every call answers. Assumes nothing.
 use Prim.Native.Nat.{ℕ, _≤_}
-use mathlib.Core.Path.{_≡_, ap, _∙_, fun-ext}
-use mathlib.Core.Logic.{_↔_}
-use mathlib.Core.Bool.{Bool, true, false, cond, _&&_}
+use mathlib.Core.Path.{_≡_, refl, sym, ap, _∙_, fun-ext}
+use mathlib.Core.Logic.{_⊎_, inl, inr, _↔_}
+use mathlib.Core.Bool.{Bool, true, false, cond, _&&_, _||_}
 use mathlib.Core.Option.{Option, none, some}
-use mathlib.Core.List.{List}
+use mathlib.Core.List.{List, _∷_, _++_, List·Memᴰ}
 use native.Mathlib.Omega.{arith}
 use lib.Dec.{eqb}
 use lib.ListN.{length, getD}
+use borrow.Author.Tests.{le-leb}
+use Rattle.floor.specs.Lists.Laws.{and-both, Apart, apart-at}
 use Rattle.floor.specs.Fields.{Field, broken, field, readField}
-use Rattle.floor.specs.Jobs.{Job, opposite, readStars, test2, test3, test4, test5, test6, Reading, fails, reads, readRest, readRooms, readFirst}
-use Rattle.floor.specs.Jobs.{readJob}
-use Rattle.floor.specs.Jobs.Facts.{Passes, passes-of, of-passes}
+use Rattle.floor.specs.Jobs.{Star, Room, starOf, kindOf, listOf, Job, opposite, readStars, test2, test3, test4, test5, test6, Reading, fails, reads}
+use Rattle.floor.specs.Jobs.{readRest, readRooms, readFirst, readJob}
+use Rattle.floor.specs.Jobs.Stars.{entry, GoodStar, kindOf-mid, mem-names}
+use Rattle.floor.specs.Jobs.Facts.{room-is, Passes, passes-of, of-passes}
 use Rattle.floor.specs.Walls.{Numbers, Axis, upright, level, rules, at, jobNumbers}
 use Rattle.floor.specs.Walls.Walk.{unique, numbers-respects}
 use Rattle.floor.specs.Walls.Rules.{numbered, numbers-are}
 use Rattle.floor.specs.Plans.{Plan, planOf, drawable, Answer, refused, held, past, test8, tested, planned, drawn}
-use Rattle.floor.specs.Plans.Held.{past-true, Drawn, drawn-again}
-use Rattle.floor.specs.Turns.{turn, turnAt, turnFrom, turned}
+use Rattle.floor.specs.Plans.Held.{past-true, Drawn, drawn-held, drawn-again}
+use Rattle.floor.specs.Turns.Swing.{length-listOf, named-front}
+use Rattle.floor.specs.Turns.Ends.{opposite-opposite}
+use Rattle.floor.specs.Turns.Restore.{Asked, asked, turned-keeps}
+use Rattle.floor.specs.Turns.{inContact, turn, turnAt, turnFrom, turned}
 use Rattle.floor.specs.Calls.{loadRead, load}
-use Rattle.floor.specs.Calls.Sound.{load-held}
+use Rattle.floor.specs.Calls.Sound.{Sound, sound-good, load-held}
 
 -- A LABELLING NUMBERED AND TESTED, by the text alone: numbers for both directions, the plan by them, tests 8 and 9
 pub record Numbered (j : Job) (p : Plan) : Type 0 where
@@ -164,3 +170,100 @@ turn-answers j u v = past-answers 7 12 _ 11 _ (omega arith) (omega arith) (go _ 
     go : (c : Bool) (u v k : ℕ) → Answers 7 12 (turnFrom c j u v k)
     go true u v k = unfold turnFrom in at-answers u v k
     go false u v k = unfold turnFrom in at-answers v u (opposite k)
+
+-- A TURN THAT THE RULES ACCEPT: of two rooms in contact b lies above a (0) or to its right (3), either list has at least two, and the turned labelling is
+-- numbered and tested afresh
+pub record Turned (j : Job) (u v : ℕ) (i : Job) (q : Plan) : Type 0 where
+  pub a : ℕ
+  pub b : ℕ
+  pub m : ℕ
+  pub who : ((a ≡ u) × (b ≡ v)) ⊎ ((a ≡ v) × (b ≡ u))
+  pub above-or-right : (m ≡ 0) ⊎ (m ≡ 3)
+  pub room-a : Room j a
+  pub room-b : Room j b
+  pub contact : List·Memᴰ (entry b m) (starOf j a)
+  pub many-a : 2 ≤ length (listOf (starOf j a) m)
+  pub many-b : 2 ≤ length (listOf (starOf j b) (opposite m))
+  pub is-job : i ≡ turned j a b m
+  pub is-numbered : Numbered i q
+
+-- in a star that names each once, an entry's kind is found
+kind-found : (s : Star) (v k : ℕ) → GoodStar s → List·Memᴰ (entry v k) s → kindOf s v ≡ k
+kind-found s v k g m = let c : Apart (entry v k) s = apart-at (entry v k) s m in go (c .front) (c .rest) (c .whole)
+  where
+    go : (P Q : Star) → s ≡ P ++ entry v k ∷ Q → kindOf s v ≡ k
+    go P Q e = rw e (kindOf-mid P v k Q (named-front P Q v k (rw e at g)))
+
+-- which of the two asks
+asks-up : (m : ℕ) → (m ≡ 0) ⊎ (m ≡ 3) → ((eqb m 0 || eqb m 3) ≡ true) × ((eqb (opposite m) 0 || eqb (opposite m) 3) ≡ false)
+unfolding opposite
+asks-up m (inl e) = rw e (refl, refl)
+asks-up m (inr e) = rw e (refl, refl)
+
+module _ (j : Job) (p : Plan) (s : Sound j p) where
+  ok : Passes j
+  ok = s .passes
+
+  -- a turn, asked from the lower or the left room, or from the other
+  turn-at : (a b m : ℕ) → Room j a → Room j b → (m ≡ 0) ⊎ (m ≡ 3) → List·Memᴰ (entry b m) (starOf j a)
+      → (turn j a b ≡ turnAt j a b m) × (turn j b a ≡ turnAt j a b m)
+  unfolding turn turnFrom inContact
+  turn-at a b m ra rb up i =
+      let (x, y) = asks-up m up in
+      let small : m ≤ 3 = ok .entries a ra (entry b m) i .small in
+      let back : List·Memᴰ (entry a (opposite m)) (starOf j b) = ok .opposed a ra (entry b m) i (rb .0) in
+      let ka : kindOf (starOf j a) b ≡ m = kind-found (starOf j a) b m (ok .good a ra) i in
+      let kb : kindOf (starOf j b) a ≡ opposite m = kind-found (starOf j b) a (opposite m) (ok .good b rb) back in (
+        past-true _ 11 _ (and-both _ _ (and-both _ _ (room-is j a ra) (room-is j b rb)) (mem-names (starOf j a) b m i)) ∙ rw (ka, x),
+        past-true _ 11 _ (and-both _ _ (and-both _ _ (room-is j b rb) (room-is j a ra)) (mem-names (starOf j b) a (opposite m) back))
+            ∙ rw (kb, y, opposite-opposite m small),
+      )
+
+  -- TURNED EXACTLY WHEN THE RULES SAY SO
+  pub turned-exactly : (u v : ℕ) (i : Job) (q : Plan) → (turn j u v ≡ held i q) ↔ Turned j u v i q
+  turned-exactly u v i q = (forth, back)
+    where
+      keeps : (a b m : ℕ) → Room j a → Room j b → List·Memᴰ (entry b m) (starOf j a) → 2 ≤ length (listOf (starOf j a) m)
+          → 2 ≤ length (listOf (starOf j b) (opposite m)) → Passes (turned j a b m)
+      keeps a b m ra rb c x y =
+          turned-keeps j ok p (sound-good j p s) a b m ra rb c (rw (length-listOf (starOf j a) m) at x)
+          (rw (length-listOf (starOf j b) (opposite m)) at y) .passes
+
+      back : Turned j u v i q → turn j u v ≡ held i q
+      back t = go (t .who)
+        where
+          drawn-is : turnAt j (t .a) (t .b) (t .m) ≡ held i q
+          drawn-is = unfold turnAt in (
+              past-true _ 12 _ (and-both _ _ (le-leb 2 _ (t .many-a)) (le-leb 2 _ (t .many-b)))
+              ∙ ap drawn (sym (t .is-job))
+              ∙ drawn-again i q (numbered-drawn i (rw (t .is-job) (keeps (t .a) (t .b) (t .m) (t .room-a) (t .room-b) (t .contact) (t .many-a) (t .many-b)))
+              q (t .is-numbered))
+              )
+
+          both : (turn j (t .a) (t .b) ≡ turnAt j (t .a) (t .b) (t .m)) × (turn j (t .b) (t .a) ≡ turnAt j (t .a) (t .b) (t .m))
+          both = turn-at (t .a) (t .b) (t .m) (t .room-a) (t .room-b) (t .above-or-right) (t .contact)
+
+          go : ((t .a ≡ u) × (t .b ≡ v)) ⊎ ((t .a ≡ v) × (t .b ≡ u)) → turn j u v ≡ held i q
+          go (inl (x, y)) = ap (λ z. turn j z v) (sym x) ∙ ap (λ z. turn j (t .a) z) (sym y) ∙ both .0 ∙ drawn-is
+          go (inr (x, y)) = ap (λ z. turn j z v) (sym y) ∙ ap (λ z. turn j (t .b) z) (sym x) ∙ both .1 ∙ drawn-is
+
+      forth : turn j u v ≡ held i q → Turned j u v i q
+      forth h =
+          let k : Asked j u v (held i q) = asked j u v i q ok h in
+          let (e, d) = drawn-held (turned j (k .a) (k .b) (k .m)) i q (k .is) in
+          let x : 2 ≤ length (listOf (starOf j (k .a)) (k .m)) = rw (length-listOf (starOf j (k .a)) (k .m)) (k .many-a) in
+          let y : 2 ≤ length (listOf (starOf j (k .b)) (opposite (k .m))) = rw (length-listOf (starOf j (k .b)) (opposite (k .m))) (k .many-b) in
+          record {
+            a = k .a;
+            b = k .b;
+            m = k .m;
+            who = k .who;
+            above-or-right = k .axis;
+            room-a = k .room-a;
+            room-b = k .room-b;
+            contact = k .contact;
+            many-a = x;
+            many-b = y;
+            is-job = e;
+            is-numbered = rw e (drawn-numbered (turned j (k .a) (k .b) (k .m)) (keeps (k .a) (k .b) (k .m) (k .room-a) (k .room-b) (k .contact) x y) q d);
+          }

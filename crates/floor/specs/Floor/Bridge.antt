@@ -41,10 +41,10 @@ module _ (j : Job) (ok : Passes j) (p : Plan) where
     shape : Shape (placeOf p)
     shape = framed-shape p (gp .framed) (gp .inside 1 (omega arith)) (gp .inside 3 (omega arith))
 
-    covered : (x y : ℕ) → x < p .width → y < p .height → (v : ℕ) × Vertex j v × Cell (rectOf p v) x y
+    pub covered : (x y : ℕ) → x < p .width → y < p .height → (v : ℕ) × Vertex j v × Cell (rectOf p v) x y
     covered x y hx hy = let o : ExactlyOne j p x y = f .cover x y hx hy in (o .one, o .vertex, o .holds)
 
-    once : (x y u v : ℕ) → Vertex j u → Vertex j v → Cell (rectOf p u) x y → Cell (rectOf p v) x y → u ≡ v
+    pub once : (x y u v : ℕ) → Vertex j u → Vertex j v → Cell (rectOf p u) x y → Cell (rectOf p v) x y → u ≡ v
     once x y u v hu hv c d =
         let o : ExactlyOne j p x y = f .cover x y (omega (arith, c .right, gp .inside u hu .in-width))
         (omega (arith, c .upper, gp .inside u hu .in-height)) in

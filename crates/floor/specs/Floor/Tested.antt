@@ -1,5 +1,5 @@
 -- The drawing test and good placements: a good plan passes it, and a plan that meets its contacts and passes it is good. Assumes nothing.
-use mathlib.Core.Path.{_≡_, sym, ap, _∙_}
+use mathlib.Core.Path.{_≡_, ap}
 use mathlib.Core.Logic.{_⊎_, inl, inr}
 use mathlib.Core.Bool.{true}
 use mathlib.Core.List.{[]}
@@ -10,13 +10,13 @@ use lib.ListN.{length, getD}
 use Rattle.floor.specs.Jobs.{Job, Vertex}
 use Rattle.floor.specs.Jobs.Facts.{Passes, star-at}
 use Rattle.floor.specs.Plans.{Plan, rectOf, drawable}
-use Rattle.floor.specs.Floor.{Cell, Shares, Joined, ExactlyOne, Complete, Inside, GoodPlan}
-use Rattle.floor.specs.Floor.Sides.{Side, up, left, down, right, next, opp, prev, Piece, side, room, size, Known, Meets, Contact, Fits, Good}
+use Rattle.floor.specs.Floor.{Cell, Shares, Joined, Complete, Inside, GoodPlan}
+use Rattle.floor.specs.Floor.Sides.{Side, up, left, down, right, next, opp, prev, Piece, side, size, Known, Meets, Contact, Fits, Good}
 use Rattle.floor.specs.Floor.Whole.{flip}
 use Rattle.floor.specs.Floor.Read.{num, number, piece, number-piece, few-sides, starsOf, known-vertex, known-piece, entry-ok}
 use Rattle.floor.specs.Floor.Joins.{joined-back, joined-contact, side-of}
 use Rattle.floor.specs.Floor.Placed.{reach, placeOf, inside-of, meets-stands, cover-place, alone-place, order-lists}
-use Rattle.floor.specs.Floor.Bridge.{meets-two, plan-good, good-plan, shares-joined}
+use Rattle.floor.specs.Floor.Bridge.{meets-two, covered, once, plan-good, good-plan, shares-joined}
 use Rattle.floor.specs.Floor.Draws.{Touch, Draws, drawable-draws, draws-drawable}
 use Rattle.floor.specs.Floor.Area.{cells-areas, areas-cells}
 
@@ -37,12 +37,6 @@ module _ (j : Job) (ok : Passes j) (p : Plan) (c : Complete j p) where
   module _ (gp : GoodPlan j p) where
     g : Good (starsOf j) (placeOf p)
     g = plan-good j ok p gp
-
-    once : (x y u v : ℕ) → Vertex j u → Vertex j v → Cell (rectOf p u) x y → Cell (rectOf p v) x y → u ≡ v
-    once x y u v hu hv a b =
-        let o : ExactlyOne j p x y = gp .floor .cover x y (omega (arith, a .right, gp .inside u hu .in-width))
-        (omega (arith, a .upper, gp .inside u hu .in-height)) in
-        o .only u hu a ∙ sym (o .only v hv b)
 
     -- the placement's corner, by rectangles
     no-corner : (u v : ℕ) → Vertex j u → Vertex j v → Touch (rectOf p u .x1) (rectOf p u .x2) (rectOf p v .x1) (rectOf p v .x2)
@@ -90,9 +84,8 @@ module _ (j : Job) (ok : Passes j) (p : Plan) (c : Complete j p) where
     pub good-drawable : drawable j p ≡ true
     good-drawable = draws-drawable j p c (record {
       inside = gp .inside;
-      apart = λ u v l hv x y a b. omega (arith, once x y u v (omega arith) hv a b);
-      areas = cells-areas (length j + 4) p (c .count) (gp .inside) (λ x y hx hy. let o : ExactlyOne j p x y =
-          gp .floor .cover x y hx hy in (o .one, o .vertex, o .holds)) once;
+      apart = λ u v l hv x y a b. omega (arith, once j ok p gp x y u v (omega arith) hv a b);
+      areas = cells-areas (length j + 4) p (c .count) (gp .inside) (covered j ok p gp) (once j ok p gp);
       shares = λ u v l hv. shares-joined j ok p c g u v (omega arith) hv;
       corners = λ u v l hv. no-corner u v (omega arith) hv;
       order = gp .floor .order;
@@ -103,8 +96,8 @@ module _ (j : Job) (ok : Passes j) (p : Plan) (c : Complete j p) where
     d : Draws j p
     d = drawable-draws j p c dr
 
-    once′ : (x y u v : ℕ) → Vertex j u → Vertex j v → Cell (rectOf p u) x y → Cell (rectOf p v) x y → u ≡ v
-    once′ x y u v hu hv a b = go (decLt u v) (decLt v u)
+    alone-cell : (x y u v : ℕ) → Vertex j u → Vertex j v → Cell (rectOf p u) x y → Cell (rectOf p v) x y → u ≡ v
+    alone-cell x y u v hu hv a b = go (decLt u v) (decLt v u)
       where
         go : Dec (u < v) → Dec (v < u) → u ≡ v
         go (yes l) m = absurd (d .apart u v l hv x y a b)
@@ -151,18 +144,14 @@ module _ (j : Job) (ok : Passes j) (p : Plan) (c : Complete j p) where
         go (inl l) = d .shares (number u) (number v) l (known-vertex j v hv) share
         go (inr l) = joined-back (d .shares (number v) (number u) l (known-vertex j u hu) back)
 
-    gap : placeOf p .at up (side down) + placeOf p .at down (side up) < placeOf p .height
-    unfolding starsOf
-    gap = omega (arith, ft .within up 0 some-room, ft .within down 0 some-room, ft .thick up (room 0) some-room)
-
     pub drawable-good : Good (starsOf j) (placeOf p)
     unfolding starsOf
     drawable-good = record {
       shape = ft .shape;
       inside = ft .inside;
       thick = ft .thick;
-      cover = cover-place j p (d .inside) (areas-cells (length j + 4) p (c .count) (d .inside) once′ (d .areas));
-      alone = alone-place j p (d .inside) once′;
+      cover = cover-place j p (d .inside) (areas-cells (length j + 4) p (c .count) (d .inside) alone-cell (d .areas));
+      alone = alone-place j p (d .inside) alone-cell;
       corner = corners;
       joined = λ k u v hu hv m. side-of (starsOf j) (placeOf p) (ft .thick) (ft .meets) k u v hu hv (some k u v hu hv m) m;
       meets = ft .meets;

@@ -25,10 +25,6 @@ pub vertex-is : (j : Job) (v : ℕ) → Vertex j v → isVertex j v ≡ true
 unfolding isVertex
 vertex-is j v h = le-leb v (length j + 3) (omega arith)
 
-pub is-vertex : (j : Job) (v : ℕ) → isVertex j v ≡ true → Vertex j v
-unfolding isVertex
-is-vertex j v e = omega (arith, leb-true v (length j + 3) e)
-
 pub room-is : (j : Job) (v : ℕ) → Room j v → isRoom j v ≡ true
 unfolding isRoom
 room-is j v r = and-both _ _ (le-leb 4 v (r .0)) (vertex-is j v (r .1))

@@ -151,9 +151,6 @@ of-good s g =
     (of-once s (g .once))
 
 -- A STAR TAKEN APART at the entry of v
-pub named-self : (v k : ℕ) (s : Star) → named v (entry v k ∷ s) ≡ 1 + named v s
-named-self v k s = let e : eqb v v ≡ true = eq-eqb v v refl in rw e at (count-cons (λ (d : Entry). eqb (d .to) v) (entry v k) s)
-
 pub kind-self : (v k : ℕ) (s : Star) → ofKind k (entry v k ∷ s) ≡ 1 + ofKind k s
 kind-self v k s = let e : eqb k k ≡ true = eq-eqb k k refl in rw e at (count-cons (λ (d : Entry). eqb (d .kind) k) (entry v k) s)
 
@@ -162,10 +159,6 @@ kind-other v k m s ne =
     let e : eqb k m ≡ false = ne-eqb k m ne in
     let c : ofKind m (entry v k ∷ s) ≡ 0 + ofKind m s = rw e at (count-cons (λ (d : Entry). eqb (d .kind) m) (entry v k) s) in
     omega arith
-
--- the name of an entry, and not its kind, decides who is named
-pub named-same : (v k t w : ℕ) (s : Star) → named w (entry v k ∷ s) ≡ named w (entry v t ∷ s)
-named-same v k t w s = omega (arith, count-cons (λ (d : Entry). eqb (d .to) w) (entry v k) s, count-cons (λ (d : Entry). eqb (d .to) w) (entry v t) s)
 
 named-mem : (v : ℕ) (s : Star) (e : Entry) → List·Memᴰ e s → e .to ≡ v → 1 ≤ named v s
 named-mem v s e m q = mem-count (λ d. eqb (d .to) v) s e m (eq-eqb (e .to) v q)

@@ -10,9 +10,9 @@ use lib.Seq.{getD-set-same, getD-set-other, set-getD, set-set, set-comm, map-set
 use lib.Dec.{leb, eqb}
 use native.Mathlib.Omega.{arith}
 use native.Mathlib.Decide.{decLt, ℕ-discrete}
-use borrow.Author.Tests.{leb-true, le-leb, eq-eqb, ne-eqb}
+use borrow.Author.Tests.{eqb-true, leb-true, le-leb, eq-eqb, ne-eqb}
 use Rattle.floor.specs.Lists.{sum, isLast}
-use Rattle.floor.specs.Lists.Laws.{and-parts, and-both, any-count, Apart, apart-at}
+use Rattle.floor.specs.Lists.Laws.{no-false, or-cases, and-parts, and-both, any-count, Apart, apart-at}
 use Rattle.floor.specs.Jobs.{Entry, Star, Job, Room, opposite, isRoom, starOf, names, kindOf, listOf, pairsIn}
 use Rattle.floor.specs.Jobs.Stars.{entry, named, ofKind, GoodStar, kindOf-mem, mem-names}
 use Rattle.floor.specs.Jobs.Facts.{EntryOk, Passes, is-room, room-is, star-room, star-frame}
@@ -355,6 +355,7 @@ pub record Asked (j : Job) (u v : ℕ) (r : Answer) : Type 0 where
   pub b : ℕ
   pub m : ℕ
   pub who : ((a ≡ u) × (b ≡ v)) ⊎ ((a ≡ v) × (b ≡ u))
+  pub axis : (m ≡ 0) ⊎ (m ≡ 3)
   pub room-a : Room j a
   pub room-b : Room j b
   pub contact : List·Memᴰ (entry b m) (starOf j a)
@@ -374,29 +375,56 @@ turnAt-held j a b m h =
       d,
     )
 
+-- kinds 1 and 2 are asked for from the other side
+from-other : (k : ℕ) → k ≤ 3 → (eqb k 0 || eqb k 3) ≡ false → (opposite k ≡ 0) ⊎ (opposite k ≡ 3)
+unfolding opposite
+from-other =
+    each-kind (λ k. (eqb k 0 || eqb k 3) ≡ false → (opposite k ≡ 0) ⊎ (opposite k ≡ 3)) (λ e. no-false (sym e)) (λ e. inr refl) (λ e. inl refl)
+    (λ e. no-false (sym e))
+
 pub asked : (j : Job) (u v : ℕ) (i : Job) (q : Plan) → Passes j → turn j u v ≡ held i q → Asked j u v (held i q)
 unfolding turn turnFrom inContact
 asked j u v i q ok h =
     let (c, d) = past-held (isRoom j u && isRoom j v && names (starOf j u) v) 11 _ h in
     let (xy, n) = and-parts _ _ c in
     let (x, y) = and-parts _ _ xy in
-    go (eqb (kindOf (starOf j u) v) 0 || eqb (kindOf (starOf j u) v) 3) (is-room j u x) (is-room j v y) (kindOf-mem (starOf j u) v n) d
+    go (eqb (kindOf (starOf j u) v) 0 || eqb (kindOf (starOf j u) v) 3) refl (is-room j u x) (is-room j v y) (kindOf-mem (starOf j u) v n) d
   where
-    go : (c : Bool) → Room j u → Room j v → List·Memᴰ (entry v (kindOf (starOf j u) v)) (starOf j u) → turnFrom c j u v (kindOf (starOf j u) v) ≡ held i q
+    k : ℕ
+    k = kindOf (starOf j u) v
+
+    either : (eqb k 0 ≡ true) ⊎ (eqb k 3 ≡ true) → (k ≡ 0) ⊎ (k ≡ 3)
+    either (inl e) = inl (eqb-true k 0 e)
+    either (inr e) = inr (eqb-true k 3 e)
+
+    go : (c : Bool) → (eqb k 0 || eqb k 3) ≡ c → Room j u → Room j v → List·Memᴰ (entry v k) (starOf j u) → turnFrom c j u v k ≡ held i q
         → Asked j u v (held i q)
-    go true ru rv m g =
-        let (x, w, z) = turnAt-held j u v (kindOf (starOf j u) v) g in
-        record { a = u; b = v; m = kindOf (starOf j u) v; who = inl (refl, refl); room-a = ru; room-b = rv; contact = m; many-a = x; many-b = w; is = z }
-    go false ru rv m g =
-        let (x, w, z) = turnAt-held j v u (opposite (kindOf (starOf j u) v)) g in
+    go true e ru rv m g =
+        let (x, w, z) = turnAt-held j u v k g in
+        record {
+          a = u;
+          b = v;
+          m = k;
+          who = inl (refl, refl);
+          axis = either (or-cases (eqb k 0) (eqb k 3) e);
+          room-a = ru;
+          room-b = rv;
+          contact = m;
+          many-a = x;
+          many-b = w;
+          is = z;
+        }
+    go false e ru rv m g =
+        let (x, w, z) = turnAt-held j v u (opposite k) g in
         record {
           a = v;
           b = u;
-          m = opposite (kindOf (starOf j u) v);
+          m = opposite k;
           who = inr (refl, refl);
+          axis = from-other k (ok .entries u ru (entry v k) m .small) e;
           room-a = rv;
           room-b = ru;
-          contact = ok .opposed u ru (entry v (kindOf (starOf j u) v)) m (rv .0);
+          contact = ok .opposed u ru (entry v k) m (rv .0);
           many-a = x;
           many-b = w;
           is = z;
