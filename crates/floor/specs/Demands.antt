@@ -4,13 +4,12 @@ use mathlib.Core.Path.{_≡_}
 use mathlib.Core.Logic.{_⊎_, _↔_}
 use mathlib.Core.Bool.{true}
 use mathlib.Core.Option.{some}
-use mathlib.Core.List.{List, List·Memᴰ}
+use mathlib.Core.List.{List}
 use lib.ListN.{length}
 use borrow.Author.Tests.{ne-eqb}
 use Rattle.floor.specs.Lists.Laws.{same-test}
 use Rattle.floor.specs.Fields.{Bytes}
-use Rattle.floor.specs.Jobs.{Job, Vertex, Room, opposite, starOf, writeJob}
-use Rattle.floor.specs.Jobs.Stars.{entry, ofKind}
+use Rattle.floor.specs.Jobs.{Job, Vertex, writeJob}
 use Rattle.floor.specs.Jobs.Facts.{Passes}
 use Rattle.floor.specs.Walls.{Circle, upright, level, rules, at, jobNumbers}
 use Rattle.floor.specs.Plans.{Plan, rectOf, share, planOf, joined, refused, held, test8, drawn}
@@ -18,8 +17,9 @@ use Rattle.floor.specs.Plans.Held.{seven, nine, width-bound, height-boun
 use Rattle.floor.specs.Floor.{Shares, Joined, Floor}
 use Rattle.floor.specs.Floor.Joins.{joined-of, of-joined}
 use Rattle.floor.specs.Floor.Draws.{shares-of, of-shares}
-use Rattle.floor.specs.Turns.{turned, turn}
-use Rattle.floor.specs.Turns.Restore.{Kept, turned-keeps}
+use Rattle.floor.specs.Turns.{turn}
+use Rattle.floor.specs.Turns.Turned.{Kept}
+use Rattle.floor.specs.Turns.Restore.{Turnable, turnedBy, turned-keeps}
 use Rattle.floor.specs.Calls.{load, Board, empty, holding, Call, loads, turns, refusal, done, lent, sharing, step, run}
 use Rattle.floor.specs.Calls.Sound.{Sound, some-room, sound-good, any-calls-sound}
 use Rattle.floor.specs.Calls.Effects.{Left, refused-leaves, write-load, load-write, Restored, turn-turn}
@@ -93,16 +93,17 @@ pub undrawable-exactly : (j : Job) → Passes j → 0 < length j → (f g : List
     → test8 (planOf j (at f) (at g)) ≡ true → (drawn j ≡ refused 9) ↔ (Floor j (planOf j (at f) (at g)) → ⊥)
 undrawable-exactly j ok h = nine j ok h
 
--- A turned labelling (b on side m of a, at least two on either list) passes tests 4 to 6, has as many rooms and pairs, and joins the same pairs; so it too
--- is refused as undrawable exactly when its own numbered rectangles break one of these.
-pub turned-labelling : (cs : List Call) (j : Job) (p : Plan) → run empty cs ≡ holding j p → (a b m : ℕ) → Room j a → Room j b
-    → List·Memᴰ (entry b m) (starOf j a) → 2 ≤ ofKind m (starOf j a) → 2 ≤ ofKind (opposite m) (starOf j b) → Kept j (turned j a b m)
-turned-labelling cs j p h = let s : Sound j p = any-calls-sound cs j p h in turned-keeps j (s .passes) p (sound-good j p s)
+-- A turned labelling passes tests 4 to 6, has as many rooms and pairs, and joins the same pairs;
+pub turned-labelling : (cs : List Call) (j : Job) (p : Plan) → run empty cs ≡ holding j p → (u v : ℕ) (t : Turnable j u v) → Kept j (turnedBy t)
+turned-labelling cs j p h u v t = let s : Sound j p = any-calls-sound cs j p h in turned-keeps j (s .passes) p (sound-good j p s) t
 
-pub turned-undrawable-exactly : (cs : List Call) (j : Job) (p : Plan) → run empty cs ≡ holding j p → (i : Job) → Kept j i
-    → (f g : List ℕ) → jobNumbers upright i ≡ some f → jobNumbers level i ≡ some g
-    → test8 (planOf i (at f) (at g)) ≡ true → (drawn i ≡ refused 9) ↔ (Floor i (planOf i (at f) (at g)) → ⊥)
-turned-undrawable-exactly cs j p h i k = nine i (k .passes) (rw (k .rooms) (some-room j p (any-calls-sound cs j p h)))
+-- so it too, numbered, is refused as undrawable exactly when its rectangles break one of these, read with its own contacts and its own order.
+pub turned-undrawable-exactly : (cs : List Call) (j : Job) (p : Plan) → run empty cs ≡ holding j p → (u v : ℕ) (t : Turnable j u v)
+    → (f g : List ℕ) → jobNumbers upright (turnedBy t) ≡ some f → jobNumbers level (turnedBy t) ≡ some g → test8 (planOf (turnedBy t) (at f) (at g)) ≡ true
+    → (drawn (turnedBy t) ≡ refused 9) ↔ (Floor (turnedBy t) (planOf (turnedBy t) (at f) (at g)) → ⊥)
+turned-undrawable-exactly cs j p h u v t =
+    let k : Kept j (turnedBy t) = turned-labelling cs j p h u v t in
+    nine (turnedBy t) (k .passes) (rw (k .rooms) (some-room j p (any-calls-sound cs j p h)))
 
 -- An accepted turn made again at once, with no other call that changes the plan between, is accepted and gives back the plan before it, whichever of the
 -- two numbers is named first.

@@ -14,8 +14,8 @@ use Rattle.floor.specs.Jobs.{Job, writeJob}
 use Rattle.floor.specs.Jobs.Written.{read-write-job, write-read-job}
 use Rattle.floor.specs.Plans.{Plan, Answer, refused, held, drawn, writePlan}
 use Rattle.floor.specs.Plans.Held.{drawn-held, drawn-again}
-use Rattle.floor.specs.Turns.{turned, turn}
-use Rattle.floor.specs.Turns.Restore.{Asked, asked, turned-restores}
+use Rattle.floor.specs.Turns.{turn}
+use Rattle.floor.specs.Turns.Restore.{turnedBy, asked, turned-restores}
 use Rattle.floor.specs.Calls.{load, Board, empty, holding, Call, loads, turns, rectangle, shares, writesJob, writesPlan, Reply, refusal, done, wrote}
 use Rattle.floor.specs.Calls.{Step, lent, refuse, after, asks, writes, step}
 use Rattle.floor.specs.Calls.Sound.{Sound, sound-good, load-held, load-reads}
@@ -128,9 +128,9 @@ turn-turn j p u v s e = go (turn j u v) refl e
         (step (after (holding j p) (turn j u v) .board) (turns v u))
     go (refused k) q e = no-refusal {k = k} (sym (unfold after refuse in e))
     go (held i r) q e =
-        let k : Asked j u v (held i r) = asked j u v i r (s .passes) q in
-        let x : i ≡ turned j (k .a) (k .b) (k .m) = drawn-held (turned j (k .a) (k .b) (k .m)) i r (k .is) .0 in
-        let (y, z) = turned-restores j (s .passes) p (sound-good j p s) u v (held i r) k in
+        let (t, c) = asked j u v i r (s .passes) q in
+        let x : i ≡ turnedBy t = drawn-held (turnedBy t) i r c .0 in
+        let (y, z) = turned-restores j (s .passes) p (sound-good j p s) t in
         let d : drawn j ≡ held j p = drawn-again j p (s .is-drawn) in
         rw (after-held (holding j p) (turn j u v) i r q) (
           after-restored (holding i r) (turn i u v) j p (ap (λ (h : Job). turn h u v) x ∙ y ∙ d),

@@ -11,8 +11,8 @@ use lib.ListN.{length, getD}
 use borrow.Author.Tests.{le-leb}
 use Rattle.floor.specs.Lists.Laws.{and-both, Apart, apart-at}
 use Rattle.floor.specs.Fields.{Field, broken, field, readField}
-use Rattle.floor.specs.Jobs.{Star, Room, starOf, kindOf, listOf, Job, opposite, readStars, test2, test3, test4, test5, test6, Reading, fails, reads}
-use Rattle.floor.specs.Jobs.{readRest, readRooms, readFirst, readJob}
+use Rattle.floor.specs.Jobs.{Star, Room, starOf, kindOf, Job, opposite, readStars, test2, test3, test4, test5, test6, Reading, fails, reads, readRest}
+use Rattle.floor.specs.Jobs.{readRooms, readFirst, readJob}
 use Rattle.floor.specs.Jobs.Stars.{entry, GoodStar, kindOf-mid, mem-names}
 use Rattle.floor.specs.Jobs.Facts.{room-is, Passes, passes-of, of-passes}
 use Rattle.floor.specs.Walls.{Numbers, Axis, upright, level, rules, at, jobNumbers}
@@ -20,9 +20,9 @@ use Rattle.floor.specs.Walls.Walk.{unique, numbers-respects}
 use Rattle.floor.specs.Walls.Rules.{numbered, numbers-are}
 use Rattle.floor.specs.Plans.{Plan, planOf, drawable, Answer, refused, held, past, test8, tested, planned, drawn}
 use Rattle.floor.specs.Plans.Held.{past-true, Drawn, drawn-held, drawn-again}
-use Rattle.floor.specs.Turns.Swing.{length-listOf, named-front}
+use Rattle.floor.specs.Turns.Swing.{named-front}
 use Rattle.floor.specs.Turns.Ends.{opposite-opposite}
-use Rattle.floor.specs.Turns.Restore.{Asked, asked, turned-keeps}
+use Rattle.floor.specs.Turns.Restore.{Turnable, turnedBy, asked, turned-keeps}
 use Rattle.floor.specs.Turns.{inContact, turn, turnAt, turnFrom, turned}
 use Rattle.floor.specs.Calls.{loadRead, load}
 use Rattle.floor.specs.Calls.Sound.{Sound, sound-good, load-held}
@@ -171,20 +171,10 @@ turn-answers j u v = past-answers 7 12 _ 11 _ (omega arith) (omega arith) (go _ 
     go true u v k = unfold turnFrom in at-answers u v k
     go false u v k = unfold turnFrom in at-answers v u (opposite k)
 
--- A TURN THAT THE RULES ACCEPT: of two rooms in contact b lies above a (0) or to its right (3), either list has at least two, and the turned labelling is
--- numbered and tested afresh
+-- A TURN THAT THE RULES ACCEPT: a contact that can be turned, and its turned labelling numbered and tested afresh
 pub record Turned (j : Job) (u v : ℕ) (i : Job) (q : Plan) : Type 0 where
-  pub a : ℕ
-  pub b : ℕ
-  pub m : ℕ
-  pub who : ((a ≡ u) × (b ≡ v)) ⊎ ((a ≡ v) × (b ≡ u))
-  pub above-or-right : (m ≡ 0) ⊎ (m ≡ 3)
-  pub room-a : Room j a
-  pub room-b : Room j b
-  pub contact : List·Memᴰ (entry b m) (starOf j a)
-  pub many-a : 2 ≤ length (listOf (starOf j a) m)
-  pub many-b : 2 ≤ length (listOf (starOf j b) (opposite m))
-  pub is-job : i ≡ turned j a b m
+  pub contact : Turnable j u v
+  pub is-job : i ≡ turnedBy contact
   pub is-numbered : Numbered i q
 
 -- in a star that names each once, an entry's kind is found
@@ -223,47 +213,29 @@ module _ (j : Job) (p : Plan) (s : Sound j p) where
   pub turned-exactly : (u v : ℕ) (i : Job) (q : Plan) → (turn j u v ≡ held i q) ↔ Turned j u v i q
   turned-exactly u v i q = (forth, back)
     where
-      keeps : (a b m : ℕ) → Room j a → Room j b → List·Memᴰ (entry b m) (starOf j a) → 2 ≤ length (listOf (starOf j a) m)
-          → 2 ≤ length (listOf (starOf j b) (opposite m)) → Passes (turned j a b m)
-      keeps a b m ra rb c x y =
-          turned-keeps j ok p (sound-good j p s) a b m ra rb c (rw (length-listOf (starOf j a) m) at x)
-          (rw (length-listOf (starOf j b) (opposite m)) at y) .passes
+      keeps : (t : Turnable j u v) → Passes (turnedBy t)
+      keeps t = turned-keeps j ok p (sound-good j p s) t .passes
 
       back : Turned j u v i q → turn j u v ≡ held i q
-      back t = go (t .who)
+      back r = go (r .contact) (r .is-job)
         where
-          drawn-is : turnAt j (t .a) (t .b) (t .m) ≡ held i q
-          drawn-is = unfold turnAt in (
-              past-true _ 12 _ (and-both _ _ (le-leb 2 _ (t .many-a)) (le-leb 2 _ (t .many-b)))
-              ∙ ap drawn (sym (t .is-job))
-              ∙ drawn-again i q (numbered-drawn i (rw (t .is-job) (keeps (t .a) (t .b) (t .m) (t .room-a) (t .room-b) (t .contact) (t .many-a) (t .many-b)))
-              q (t .is-numbered))
-              )
+          go : (t : Turnable j u v) → i ≡ turnedBy t → turn j u v ≡ held i q
+          go t e = two (t .a) (t .b) (t .who) (turn-at (t .a) (t .b) (t .m) (t .room-a) (t .room-b) (t .above-or-right) (t .contact))
+            where
+              drawn-is : turnAt j (t .a) (t .b) (t .m) ≡ held i q
+              drawn-is = unfold turnAt in (
+                  past-true _ 12 _ (and-both _ _ (le-leb 2 _ (t .many-a)) (le-leb 2 _ (t .many-b)))
+                  ∙ ap drawn (sym e)
+                  ∙ drawn-again i q (numbered-drawn i (rw e (keeps t)) q (r .is-numbered))
+                  )
 
-          both : (turn j (t .a) (t .b) ≡ turnAt j (t .a) (t .b) (t .m)) × (turn j (t .b) (t .a) ≡ turnAt j (t .a) (t .b) (t .m))
-          both = turn-at (t .a) (t .b) (t .m) (t .room-a) (t .room-b) (t .above-or-right) (t .contact)
-
-          go : ((t .a ≡ u) × (t .b ≡ v)) ⊎ ((t .a ≡ v) × (t .b ≡ u)) → turn j u v ≡ held i q
-          go (inl (x, y)) = ap (λ z. turn j z v) (sym x) ∙ ap (λ z. turn j (t .a) z) (sym y) ∙ both .0 ∙ drawn-is
-          go (inr (x, y)) = ap (λ z. turn j z v) (sym y) ∙ ap (λ z. turn j (t .b) z) (sym x) ∙ both .1 ∙ drawn-is
+              two : (a b : ℕ) → ((a ≡ u) × (b ≡ v)) ⊎ ((a ≡ v) × (b ≡ u))
+                  → (turn j a b ≡ turnAt j (t .a) (t .b) (t .m)) × (turn j b a ≡ turnAt j (t .a) (t .b) (t .m)) → turn j u v ≡ held i q
+              two a b (inl (x, y)) both = rw (← x, ← y) (both .0 ∙ drawn-is)
+              two a b (inr (x, y)) both = rw (← x, ← y) (both .1 ∙ drawn-is)
 
       forth : turn j u v ≡ held i q → Turned j u v i q
       forth h =
-          let k : Asked j u v (held i q) = asked j u v i q ok h in
-          let (e, d) = drawn-held (turned j (k .a) (k .b) (k .m)) i q (k .is) in
-          let x : 2 ≤ length (listOf (starOf j (k .a)) (k .m)) = rw (length-listOf (starOf j (k .a)) (k .m)) (k .many-a) in
-          let y : 2 ≤ length (listOf (starOf j (k .b)) (opposite (k .m))) = rw (length-listOf (starOf j (k .b)) (opposite (k .m))) (k .many-b) in
-          record {
-            a = k .a;
-            b = k .b;
-            m = k .m;
-            who = k .who;
-            above-or-right = k .axis;
-            room-a = k .room-a;
-            room-b = k .room-b;
-            contact = k .contact;
-            many-a = x;
-            many-b = y;
-            is-job = e;
-            is-numbered = rw e (drawn-numbered (turned j (k .a) (k .b) (k .m)) (keeps (k .a) (k .b) (k .m) (k .room-a) (k .room-b) (k .contact) x y) q d);
-          }
+          let (t, c) = asked j u v i q ok h in
+          let (e, d) = drawn-held (turnedBy t) i q c in
+          record { contact = t; is-job = e; is-numbered = rw e (drawn-numbered (turnedBy t) (keeps t) q d) }

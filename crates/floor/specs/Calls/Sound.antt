@@ -13,8 +13,9 @@ use Rattle.floor.specs.Jobs.Written.{read-test2}
 use Rattle.floor.specs.Plans.{Plan, Answer, refused, held, writePlan}
 use Rattle.floor.specs.Plans.Held.{not-held, past-true, past-held, Drawn, drawn-held, drawn-again, held-good}
 use Rattle.floor.specs.Floor.{GoodPlan}
-use Rattle.floor.specs.Turns.{turned, turn}
-use Rattle.floor.specs.Turns.Restore.{Asked, asked, Kept, turned-keeps}
+use Rattle.floor.specs.Turns.{turn}
+use Rattle.floor.specs.Turns.Turned.{Kept}
+use Rattle.floor.specs.Turns.Restore.{turnedBy, asked, turned-keeps}
 use Rattle.floor.specs.Calls.{loadRead, load, Board, empty, holding, Call, loads, turns, rectangle, shares, writesJob, writesPlan, Reply, refuse, after}
 use Rattle.floor.specs.Calls.{asks, writes, step, run}
 
@@ -69,11 +70,10 @@ load-reads bs j p r s =
 pub turn-held : (j : Job) (p : Plan) (u v : ℕ) (i : Job) (q : Plan) → Sound j p → turn j u v ≡ held i q → Sound i q
 unfolding test3
 turn-held j p u v i q s h =
-    let k : Asked j u v (held i q) = asked j u v i q (s .passes) h in
-    let w : Kept j (turned j (k .a) (k .b) (k .m)) = turned-keeps j (s .passes) p (sound-good j p s) (k .a) (k .b) (k .m) (k .room-a) (k .room-b)
-    (k .contact) (k .many-a) (k .many-b) in
-    let (e, d) = drawn-held (turned j (k .a) (k .b) (k .m)) i q (k .is) in
-    rw e (record { pass2 = rw (w .rooms) (s .pass2); pass3 = rw (w .pairs) (s .pass3); passes = w .passes; is-drawn = d })
+    let (t, d) = asked j u v i q (s .passes) h in
+    let w : Kept j (turnedBy t) = turned-keeps j (s .passes) p (sound-good j p s) t in
+    let (e, r) = drawn-held (turnedBy t) i q d in
+    rw e (record { pass2 = rw (w .rooms) (s .pass2); pass3 = rw (w .pairs) (s .pass3); passes = w .passes; is-drawn = r })
 
 -- ONE CALL leaves a sound board sound
 after-sound : (b : Board) (r : Answer) → SoundBoard b → ((j : Job) (p : Plan) → r ≡ held j p → Sound j p) → SoundBoard (after b r .board)

@@ -17,6 +17,7 @@ use Rattle.floor.specs.Plans.{Rect, Plan, nowhere, rectOf, inside, overl
 use Rattle.floor.specs.Plans.{drawable}
 use Rattle.floor.specs.Floor.{Cell, Wall, Stands, Shares, Onward, Earlier, here, there, Joined, Complete, Inside}
 use Rattle.floor.specs.Floor.Joins.{joined-of, of-joined}
+use Rattle.floor.specs.Floor.Placed.{wall-at}
 
 -- the stretches from a to b and from c to d touch end to end
 abbrev pub Touch : ℕ → ℕ → ℕ → ℕ → Type 0
@@ -101,14 +102,7 @@ of-touch a b c d (inr e) = or-right (eqb b c) (eqb d a) (eq-eqb d a e)
 -- a shared stretch, along either line
 wall-of : (a from to b from′ to′ : ℕ) → a ≡ b → 1 ≤ overlap from to from′ to′ → Wall a from to b from′ to′
 unfolding overlap
-wall-of a from to b from′ to′ e l = record {
-  line = e;
-  c = max from from′;
-  starts = omega arith;
-  ends = omega arith;
-  starts′ = omega arith;
-  ends′ = omega arith;
-}
+wall-of a from to b from′ to′ e l = wall-at a from to b from′ to′ e (omega arith) (omega arith) (omega arith) (omega arith)
 
 of-wall : {a from to b from′ to′ : ℕ} → Wall a from to b from′ to′ → leb 1 (overlap from to from′ to′) ≡ true
 unfolding overlap

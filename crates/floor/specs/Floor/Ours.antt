@@ -17,7 +17,7 @@ use Rattle.floor.specs.Floor.Sides.{Side, up, left, down, right, opp, Pi
 use Rattle.floor.specs.Floor.Whole.{flip, frame-meets}
 use Rattle.floor.specs.Floor.Read.{num, number, starsOf, mem-entry, every-kind, leads, lawful}
 use Rattle.floor.specs.Floor.Joins.{contact-back}
-use Rattle.floor.specs.Floor.Placed.{reach, placeOf, framed-shape, inside-place, thick-place, stands-meets}
+use Rattle.floor.specs.Floor.Placed.{wall-at, reach, placeOf, framed-shape, inside-place, thick-place, stands-meets}
 
 -- one direction of a job, where it leads, and its numbers
 pub record Way (j : Job) : Type 0 where
@@ -151,14 +151,8 @@ module _ (j : Job) (ok : Passes j) (w v : Way j) (across : v .axis .cross ≡ nu
       let (x, y) = cross-wall j ok v (w .to) across i r hi m in
       let a : Lies j ok v i = lies j ok v i hi in
       let b : Lies j ok v r = lies j ok v r hr in
-      record {
-        line = far-wall j ok w i (room r) hi m;
-        c = max (aside (low (4 + i))) (aside (low (4 + r)));
-        starts = omega arith;
-        ends = omega (arith, a .own);
-        starts′ = omega arith;
-        ends′ = omega (arith, b .own);
-      }
+      wall-at (along (high (4 + i))) (aside (low (4 + i))) (aside (high (4 + i))) (along (low (4 + r))) (aside (low (4 + r))) (aside (high (4 + r)))
+      (far-wall j ok w i (room r) hi m) (omega (arith, a .own)) (omega (arith, b .own)) (omega arith) (omega arith)
 
   room-frame : (i e : ℕ) → i < length j → along (low (num (w .to))) ≡ e → List·Memᴰ (side (w .to)) (starsOf j .list (w .to) i)
       → Wall (along (high (4 + i))) (aside (low (4 + i))) (aside (high (4 + i))) e lo hi

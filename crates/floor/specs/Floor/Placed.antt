@@ -10,7 +10,7 @@ use borrow.Author.Tests.{eqb-true, eq-eqb}
 use Rattle.floor.specs.Lists.{keep}
 use Rattle.floor.specs.Jobs.{Entry, Star, Job, Vertex, listOf}
 use Rattle.floor.specs.Plans.{Rect, Plan, rectOf}
-use Rattle.floor.specs.Floor.{Cell, Point, Stands, Onward, Earlier, here, there, Framed, Inside}
+use Rattle.floor.specs.Floor.{Cell, Point, Wall, Stands, Onward, Earlier, here, there, Framed, Inside}
 use Rattle.floor.specs.Floor.Sides.{Side, up, left, down, right, next, opp, prev, around, Piece, Place, size, Known, Meets, Tile, In, Ordered, Precedes}
 use Rattle.floor.specs.Floor.Sides.{Shape}
 use Rattle.floor.specs.Floor.Cover.{turn, turn-in, turn-out}
@@ -37,6 +37,17 @@ tile-at p x y hx hy = record { a = p .width - 1 - x; b = p .height - 1 - y; c = 
 unfoldable pub knot-at : (p : Plan) (x y : ℕ) → x ≤ p .width → y ≤ p .height → Knot (placeOf p) left
 unfolding placeOf
 knot-at p x y hx hy = record { a = p .width - x; b = p .height - y; c = x; d = y; ac = omega arith; bd = omega arith }
+
+-- stretches on one line that reach over one another share a unit of it
+pub wall-at : (a from to b from′ to′ : ℕ) → a ≡ b → from < to → from′ < to′ → from < to′ → from′ < to → Wall a from to b from′ to′
+wall-at a from to b from′ to′ e f g h i = record {
+  line = e;
+  c = max from from′;
+  starts = omega arith;
+  ends = omega arith;
+  starts′ = omega arith;
+  ends′ = omega arith;
+}
 
 -- the frame's shape
 pub framed-shape : (p : Plan) → Framed p → Inside p (rectOf p 1) → Inside p (rectOf p 3) → Shape (placeOf p)
@@ -114,40 +125,19 @@ module _ (j : Job) (p : Plan) (ins : (v : ℕ) → Vertex j v → Inside p (rect
       s : Rect
       s = rectOf p (number v)
 
-      go : (k : Side) → Inside p (rectOf p (number u)) → Inside p (rectOf p (number v)) → Meets (placeOf p) k u v
-          → Stands (num k) (rectOf p (number u)) (rectOf p (number v))
-      go up i h m = record {
-        line = omega (arith, m .touch, h .tall, h .in-height);
-        c = max (r .x1) (s .x1);
-        starts = omega arith;
-        ends = omega (arith, m .behind, i .wide, h .wide, i .in-width);
-        starts′ = omega arith;
-        ends′ = omega (arith, m .ahead, i .wide, h .wide, h .in-width);
-      }
-      go down i h m = record {
-        line = omega (arith, m .touch, i .tall, i .in-height);
-        c = max (r .x1) (s .x1);
-        starts = omega arith;
-        ends = omega (arith, m .behind, i .wide, h .wide, h .in-width);
-        starts′ = omega arith;
-        ends′ = omega (arith, m .ahead, i .wide, h .wide, i .in-width);
-      }
-      go left i h m = record {
-        line = omega (arith, m .touch, i .wide, i .in-width);
-        c = max (r .y1) (s .y1);
-        starts = omega arith;
-        ends = omega (arith, m .ahead, i .tall, h .tall, h .in-height);
-        starts′ = omega arith;
-        ends′ = omega (arith, m .behind, i .tall, h .tall, i .in-height);
-      }
-      go right i h m = record {
-        line = omega (arith, m .touch, h .wide, h .in-width);
-        c = max (r .y1) (s .y1);
-        starts = omega arith;
-        ends = omega (arith, m .ahead, i .tall, h .tall, i .in-height);
-        starts′ = omega arith;
-        ends′ = omega (arith, m .behind, i .tall, h .tall, h .in-height);
-      }
+      go : (k : Side) → Inside p r → Inside p s → Meets (placeOf p) k u v → Stands (num k) r s
+      go up i h m =
+          wall-at (r .y2) (r .x1) (r .x2) (s .y1) (s .x1) (s .x2) (omega (arith, m .touch, h .tall, h .in-height)) (i .wide) (h .wide)
+          (omega (arith, m .ahead, h .in-width)) (omega (arith, m .behind, i .in-width))
+      go down i h m =
+          wall-at (s .y2) (s .x1) (s .x2) (r .y1) (r .x1) (r .x2) (omega (arith, m .touch, i .tall, i .in-height)) (h .wide) (i .wide)
+          (omega (arith, m .ahead, i .in-width)) (omega (arith, m .behind, h .in-width))
+      go right i h m =
+          wall-at (r .x2) (r .y1) (r .y2) (s .x1) (s .y1) (s .y2) (omega (arith, m .touch, h .wide, h .in-width)) (i .tall) (h .tall)
+          (omega (arith, m .behind, h .in-height)) (omega (arith, m .ahead, i .in-height))
+      go left i h m =
+          wall-at (s .x2) (s .y1) (s .y2) (r .x1) (r .y1) (r .y2) (omega (arith, m .touch, i .wide, i .in-width)) (h .tall) (i .tall)
+          (omega (arith, m .behind, i .in-height)) (omega (arith, m .ahead, h .in-height))
 
   -- CELLS, seen towards the left
   cell-in : (x : Tile (placeOf p) left) (v : Piece) → Known (starsOf j) v → Cell (rectOf p (number v)) (x .c) (x .d) → In (placeOf p) left x v
