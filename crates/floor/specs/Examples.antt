@@ -7,15 +7,15 @@ use lib.Dec.{eqb}
 use lib.ListN.{replicate}
 use Rattle.floor.specs.Lists.{all, any, keep, pairwise, chained, sum, upFrom, isFirst, isLast}
 use Rattle.floor.specs.Fields.{readField, restOf, writeField}
-use Rattle.floor.specs.Jobs.{Entry, Star, Job, opposite, frameKind, rooms, isVertex, isRoom, starOf, names, lists, kindOf, listOf, pairsIn, test2, test3, entryOk, test4}
-use Rattle.floor.specs.Jobs.{starOk, test5, test6, entries, starThen, readStars, readRest, readRooms, readFirst, readJob, starBytes, writeStars}
-use Rattle.floor.specs.Jobs.{writeJob}
+use Rattle.floor.specs.Jobs.{Star, Job, opposite, frameKind, rooms, isVertex, isRoom, starOf, names, lists, kindOf, listOf, pairsIn, test2, test3}
+use Rattle.floor.specs.Jobs.{entryOk, test4, starOk, test5, test6, entries, starThen, readStars, readRest, readRooms, readFirst, readJob, passing}
+use Rattle.floor.specs.Jobs.{firstSix, starBytes, writeStars, writeJob}
 use Rattle.floor.specs.Walls.{entryRules, starRules, rulesFrom, raise, relax1, relax, meets, over, passes, numbersOf, jobNumbers}
 use Rattle.floor.specs.Plans.{Rect, rectOf, roomRect, planOf, inside, overlap, abut, apart, area, share, corner, nextSide, joined, sharesJoined}
 use Rattle.floor.specs.Plans.{follows, inOrder, drawable, past, test8, tested, planned, drawn, rectBytes, writeRects, writePlan}
 use Rattle.floor.specs.Turns.{turnedKind, withKind, rekinded, turned, turnAt, turnFrom, inContact, turn}
 use Rattle.floor.specs.Calls.{Board, empty, holding, Call, loads, turns, rectangle, shares, writesJob, writesPlan, Reply, refusal, done, spans, says}
-use Rattle.floor.specs.Calls.{wrote, Step, loadRead, load, refuse, after, asks, writes, sharing, step, run}
+use Rattle.floor.specs.Calls.{wrote, Step, drawRead, load, refuse, after, asks, writes, sharing, step, run}
 
 -- P1: one room
 p1 : List ℕ
@@ -236,10 +236,12 @@ table =
 
 -- EVERY ROW HOLDS
 pub examples : all right table ≡ true
-unfolding rowStar row p1 p5 p6 p7 jobF p10 floorP1 floorP5 floorF turnedF planP1 same numbers plan told right table all any keep pairwise chained sum upFrom isFirst
+unfolding rowStar row p1 p5 p6 p7 jobF p10 floorP1 floorP5 floorF turnedF planP1 same numbers plan told right table all any keep pairwise chained sum
+    upFrom isFirst
     isLast readField restOf writeField opposite frameKind rooms isVertex isRoom starOf names lists kindOf listOf pairsIn test2 test3 entryOk test4 starOk
-    test5 test6 entries starThen readStars readRest readRooms readFirst readJob starBytes writeStars writeJob entryRules starRules rulesFrom raise relax1
+    test5 test6 entries starThen readStars readRest readRooms readFirst readJob passing firstSix starBytes writeStars writeJob entryRules starRules
+    rulesFrom raise relax1
     relax meets over passes numbersOf jobNumbers rectOf roomRect planOf inside overlap abut apart area share corner nextSide joined sharesJoined follows
     inOrder drawable past test8 tested planned drawn rectBytes writeRects writePlan turnedKind withKind rekinded turned turnAt turnFrom inContact turn
-    loadRead load refuse after asks writes sharing step run
+    drawRead load refuse after asks writes sharing step run
 examples = refl

@@ -106,7 +106,7 @@ write-load b j p s = after-held b (load (writeJob j)) j p (load-reads (writeJob 
 
 -- LOADED AND WRITTEN, the same bytes
 pub load-write : (bs : List ℕ) (j : Job) (p : Plan) → Bytes bs → load bs ≡ held j p → writeJob j ≡ bs
-load-write bs j p ok e = write-read-job bs j ok (load-held bs j p e .0)
+load-write bs j p ok e = write-read-job bs j ok (load-held bs j p e .0 .reading)
 
 -- TURNED AND TURNED AGAIN, in either order of the two numbers: accepted, and the same board
 pub record Restored (b : Board) (s : Step) : Type 0 where

@@ -11,10 +11,10 @@ use lib.ListN.{length, getD}
 use borrow.Author.Tests.{le-leb}
 use Rattle.floor.specs.Lists.Laws.{and-both, Apart, apart-at}
 use Rattle.floor.specs.Fields.{Field, broken, field, readField}
-use Rattle.floor.specs.Jobs.{Star, Room, starOf, kindOf, Job, opposite, readStars, test2, test3, test4, test5, test6, Reading, fails, reads, readRest}
-use Rattle.floor.specs.Jobs.{readRooms, readFirst, readJob}
+use Rattle.floor.specs.Jobs.{passing, firstSix, Star, Room, starOf, kindOf, Job, opposite, readStars, test2, test3, test4, test5, test6, Reading, fails}
+use Rattle.floor.specs.Jobs.{reads, readRest, readRooms, readFirst, readJob}
 use Rattle.floor.specs.Jobs.Stars.{entry, GoodStar, kindOf-mid, mem-names}
-use Rattle.floor.specs.Jobs.Facts.{room-is, Passes, passes-of, of-passes}
+use Rattle.floor.specs.Jobs.Facts.{SixPassed, room-is, Passes, passes-of}
 use Rattle.floor.specs.Walls.{Numbers, Axis, upright, level, rules, at, jobNumbers}
 use Rattle.floor.specs.Walls.Walk.{unique, numbers-respects}
 use Rattle.floor.specs.Walls.Rules.{numbered, numbers-are}
@@ -24,8 +24,8 @@ use Rattle.floor.specs.Turns.Swing.{named-front}
 use Rattle.floor.specs.Turns.Ends.{opposite-opposite}
 use Rattle.floor.specs.Turns.Restore.{Turnable, turnedBy, asked, turned-keeps}
 use Rattle.floor.specs.Turns.{inContact, turn, turnAt, turnFrom, turned}
-use Rattle.floor.specs.Calls.{loadRead, load}
-use Rattle.floor.specs.Calls.Sound.{Sound, sound-good, load-held}
+use Rattle.floor.specs.Calls.{drawRead, load}
+use Rattle.floor.specs.Calls.Sound.{Sound, sound-good, load-held, load-six}
 
 -- A LABELLING NUMBERED AND TESTED, by the text alone: numbers for both directions, the plan by them, tests 8 and 9
 pub record Numbered (j : Job) (p : Plan) : Type 0 where
@@ -71,32 +71,20 @@ module _ (j : Job) (ok : Passes j) (p : Plan) where
 
 -- A JOB THAT THE RULES ACCEPT: read past tests 1 and 2, past tests 3 to 6, numbered and tested
 pub record Accepted (bs : List ℕ) (j : Job) (p : Plan) : Type 0 where
-  pub reading : readJob bs ≡ reads j
-  pub pass3 : test3 j ≡ true
-  pub pass4 : test4 j ≡ true
-  pub pass5 : test5 j ≡ true
-  pub pass6 : test6 j ≡ true
+  pub six : SixPassed (readJob bs) j
   pub is-numbered : Numbered j p
 
 -- LOADED EXACTLY WHEN THE RULES SAY SO
 pub accepted : (bs : List ℕ) (j : Job) (p : Plan) → (load bs ≡ held j p) ↔ Accepted bs j p
-unfolding load loadRead
 accepted bs j p = (forth, back)
   where
     forth : load bs ≡ held j p → Accepted bs j p
-    forth h =
-        let (r, s) = load-held bs j p h in
-        let (t4, t5, t6) = of-passes j (s .passes) in
-        record { reading = r; pass3 = s .pass3; pass4 = t4; pass5 = t5; pass6 = t6; is-numbered = drawn-numbered j (s .passes) p (s .is-drawn) }
+    forth h = let (six, s) = load-held bs j p h in record { six = six; is-numbered = drawn-numbered j (s .passes) p (s .is-drawn) }
 
     back : Accepted bs j p → load bs ≡ held j p
     back a =
-        ap loadRead (a .reading)
-        ∙ past-true (test3 j) 3 _ (a .pass3)
-        ∙ past-true (test4 j) 4 _ (a .pass4)
-        ∙ past-true (test5 j) 5 _ (a .pass5)
-        ∙ past-true (test6 j) 6 _ (a .pass6)
-        ∙ drawn-again j p (numbered-drawn j (passes-of j (a .pass4) (a .pass5) (a .pass6)) p (a .is-numbered))
+        let s : SixPassed (readJob bs) j = a .six in
+        load-six bs j p s (numbered-drawn j (passes-of j (s .pass4) (s .pass5) (s .pass6)) p (a .is-numbered))
 
 -- a plan, or one refusal whose number is among those of the call
 abbrev pub Answers : ℕ → ℕ → Answer → Type 0
@@ -123,40 +111,49 @@ drawn-answers j = go (jobNumbers upright j) (jobNumbers level j)
     go (some f) (some g) = unfold planned tested in past-answers 7 9 (test8 (planOf j (at f) (at g))) 8 _ (omega arith) (omega arith)
         (past-answers 7 9 (drawable j (planOf j (at f) (at g))) 9 _ (omega arith) (omega arith) tt)
 
--- what fails in reading fails by 1 or 2
-abbrev Fails : Reading → Type 0
-Fails (fails k) = (1 ≤ k) × (k ≤ 2)
-Fails (reads j) = Unit {0}
+-- what fails, fails by a number from 1 on
+abbrev Fails : ℕ → Reading → Type 0
+Fails most (fails k) = (1 ≤ k) × (k ≤ most)
+Fails most (reads j) = Unit {0}
 
-read-answers : (f : Field) → Fails (readFirst f)
+read-answers : (f : Field) → Fails 2 (readFirst f)
 unfolding readFirst
 read-answers broken = (omega arith, omega arith)
 read-answers (field t v rest) = go (eqb t 1 && eqb (length v) 1) (test2 (getD v 0 0)) (getD v 0 0)
   where
-    rest-answers : (o : Option Job) → Fails (readRest o)
+    rest-answers : (o : Option Job) → Fails 2 (readRest o)
     rest-answers none = unfold readRest in (omega arith, omega arith)
     rest-answers (some j) = unfold readRest in tt
 
-    rooms-answers : (b : Bool) (n : ℕ) → Fails (readRooms b n rest)
+    rooms-answers : (b : Bool) (n : ℕ) → Fails 2 (readRooms b n rest)
     rooms-answers true n = unfold readRooms in rest-answers (readStars n rest)
     rooms-answers false n = unfold readRooms in (omega arith, omega arith)
 
-    go : (a b : Bool) (n : ℕ) → Fails (cond a (readRooms b n rest) (fails 1))
+    go : (a b : Bool) (n : ℕ) → Fails 2 (cond a (readRooms b n rest) (fails 1))
     go true b n = rooms-answers b n
     go false b n = (omega arith, omega arith)
+
+passing-fails : (b : Bool) (k : ℕ) (r : Reading) → 1 ≤ k → k ≤ 6 → Fails 6 r → Fails 6 (passing b k r)
+unfolding passing
+passing-fails true k r l h f = f
+passing-fails false k r l h f = (l, h)
+
+six-answers : (r : Reading) → Fails 2 r → Fails 6 (firstSix r)
+unfolding firstSix
+six-answers (fails k) h = (h .0, omega (arith, h .1))
+six-answers (reads j) h =
+    passing-fails (test3 j) 3 _ (omega arith) (omega arith)
+    (passing-fails (test4 j) 4 _ (omega arith) (omega arith)
+    (passing-fails (test5 j) 5 _ (omega arith) (omega arith) (passing-fails (test6 j) 6 (reads j) (omega arith) (omega arith) tt)))
 
 -- EVERY LOAD ANSWERS: a plan, or one of the refusals 1 to 9
 pub load-answers : (bs : List ℕ) → Answers 1 9 (load bs)
 unfolding load readJob
-load-answers bs = go (readFirst (readField bs)) (read-answers (readField bs))
+load-answers bs = go (firstSix (readJob bs)) (six-answers (readJob bs) (read-answers (readField bs)))
   where
-    go : (r : Reading) → Fails r → Answers 1 9 (loadRead r)
-    go (fails k) h = unfold loadRead in (omega arith, omega arith)
-    go (reads j) h = unfold loadRead in
-        past-answers 1 9 (test3 j) 3 _ (omega arith) (omega arith)
-        (past-answers 1 9 (test4 j) 4 _ (omega arith) (omega arith)
-        (past-answers 1 9 (test5 j) 5 _ (omega arith) (omega arith)
-        (past-answers 1 9 (test6 j) 6 _ (omega arith) (omega arith) (wider 1 9 7 9 (drawn j) (omega arith) (omega arith) (drawn-answers j)))))
+    go : (r : Reading) → Fails 6 r → Answers 1 9 (drawRead r)
+    go (fails k) h = unfold drawRead in (h .0, omega (arith, h .1))
+    go (reads j) h = unfold drawRead in wider 1 9 7 9 (drawn j) (omega arith) (omega arith) (drawn-answers j)
 
 -- EVERY TURN of a held plan ANSWERS: a plan, or one of the refusals 7 to 12 (10 is given where no plan is held)
 pub turn-answers : (j : Job) (u v : ℕ) → Answers 7 12 (turn j u v)

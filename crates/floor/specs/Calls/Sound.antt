@@ -7,16 +7,16 @@ use lib.ListN.{length}
 use native.Mathlib.Omega.{arith}
 use borrow.Author.Tests.{leb-true}
 use Rattle.floor.specs.Lists.Laws.{and-parts}
-use Rattle.floor.specs.Jobs.{Job, test2, test3, test4, test5, test6, Reading, fails, reads, readJob, writeJob}
-use Rattle.floor.specs.Jobs.Facts.{Passes, passes-of, of-passes}
+use Rattle.floor.specs.Jobs.{firstSix, Job, test2, test3, Reading, fails, reads, readJob, writeJob}
+use Rattle.floor.specs.Jobs.Facts.{Passes, passes-of, of-passes, SixPassed, six-passed, passed-six}
 use Rattle.floor.specs.Jobs.Written.{read-test2}
 use Rattle.floor.specs.Plans.{Plan, Answer, refused, held, writePlan}
-use Rattle.floor.specs.Plans.Held.{not-held, past-true, past-held, Drawn, drawn-held, drawn-again, held-good}
+use Rattle.floor.specs.Plans.Held.{not-held, Drawn, drawn-held, drawn-again, held-good}
 use Rattle.floor.specs.Floor.{GoodPlan}
 use Rattle.floor.specs.Turns.{turn}
 use Rattle.floor.specs.Turns.Turned.{Kept}
 use Rattle.floor.specs.Turns.Restore.{turnedBy, asked, turned-keeps}
-use Rattle.floor.specs.Calls.{loadRead, load, Board, empty, holding, Call, loads, turns, rectangle, shares, writesJob, writesPlan, Reply, refuse, after}
+use Rattle.floor.specs.Calls.{drawRead, load, Board, empty, holding, Call, loads, turns, rectangle, shares, writesJob, writesPlan, Reply, refuse, after}
 use Rattle.floor.specs.Calls.{asks, writes, step, run}
 
 -- WHAT IS HELD: a job past tests 2 to 6, and its own drawing
@@ -40,31 +40,27 @@ module _ (j : Job) (p : Plan) (s : Sound j p) where
   sound-good = held-good j (s .passes) some-room p (s .is-drawn)
 
 -- A LOAD that holds read a job past tests 2 to 6, and drew it
-pub load-held : (bs : List ℕ) (j : Job) (p : Plan) → load bs ≡ held j p → (readJob bs ≡ reads j) × Sound j p
-unfolding load loadRead
-load-held bs j p h = go (readJob bs) refl h
-  where
-    go : (r : Reading) → readJob bs ≡ r → loadRead r ≡ held j p → (readJob bs ≡ reads j) × Sound j p
-    go (fails k) e h = not-held h
-    go (reads i) e h =
-        let (t3, h4) = past-held (test3 i) 3 _ h in
-        let (t4, h5) = past-held (test4 i) 4 _ h4 in
-        let (t5, h6) = past-held (test5 i) 5 _ h5 in
-        let (t6, h7) = past-held (test6 i) 6 _ h6 in
-        let (q, d) = drawn-held i j p h7 in
-        (e ∙ ap reads (sym q), rw q (record { pass2 = read-test2 bs i e; pass3 = t3; passes = passes-of i t4 t5 t6; is-drawn = d }))
+draw-held : (r : Reading) (j : Job) (p : Plan) → drawRead r ≡ held j p → (r ≡ reads j) × Drawn j p
+unfolding drawRead
+draw-held (fails k) j p h = not-held h
+draw-held (reads i) j p h = let (q, d) = drawn-held i j p h in (ap reads (sym q), rw q d)
+
+pub load-held : (bs : List ℕ) (j : Job) (p : Plan) → load bs ≡ held j p → SixPassed (readJob bs) j × Sound j p
+unfolding load
+load-held bs j p h =
+    let (e, d) = draw-held (firstSix (readJob bs)) j p h in
+    let s : SixPassed (readJob bs) j = six-passed (readJob bs) j e in
+    (s, record { pass2 = read-test2 bs j (s .reading); pass3 = s .pass3; passes = passes-of j (s .pass4) (s .pass5) (s .pass6); is-drawn = d })
 
 -- and such a job is loaded
+pub load-six : (bs : List ℕ) (j : Job) (p : Plan) → SixPassed (readJob bs) j → Drawn j p → load bs ≡ held j p
+unfolding load drawRead
+load-six bs j p s d = ap drawRead (passed-six (readJob bs) j s) ∙ drawn-again j p d
+
 pub load-reads : (bs : List ℕ) (j : Job) (p : Plan) → readJob bs ≡ reads j → Sound j p → load bs ≡ held j p
-unfolding load loadRead
 load-reads bs j p r s =
     let (t4, t5, t6) = of-passes j (s .passes) in
-    ap loadRead r
-    ∙ past-true (test3 j) 3 _ (s .pass3)
-    ∙ past-true (test4 j) 4 _ t4
-    ∙ past-true (test5 j) 5 _ t5
-    ∙ past-true (test6 j) 6 _ t6
-    ∙ drawn-again j p (s .is-drawn)
+    load-six bs j p (record { reading = r; pass3 = s .pass3; pass4 = t4; pass5 = t5; pass6 = t6 }) (s .is-drawn)
 
 -- A TURN that holds keeps what is held sound
 pub turn-held : (j : Job) (p : Plan) (u v : ℕ) (i : Job) (q : Plan) → Sound j p → turn j u v ≡ held i q → Sound i q

@@ -2,7 +2,7 @@
 use Prim.Native.Nat.{ℕ, zero, suc, _+_, _-_, _≤_, _<_}
 use mathlib.Core.Path.{_≡_, refl, sym, ap, _∙_}
 use mathlib.Core.Logic.{_⊎_, inl, inr}
-use mathlib.Core.Bool.{Bool, true, not, _&&_, _||_}
+use mathlib.Core.Bool.{Bool, true, false, not, _&&_, _||_}
 use mathlib.Core.List.{[], List·Memᴰ, Memᴰ·cast}
 use lib.ListN.{length, getD}
 use lib.Dec.{leb, eqb}
@@ -12,8 +12,8 @@ use borrow.Author.Tests.{leb-true, eqb-true, eqb-false, le-leb, lt-leb, eq-eqb, 
 use Rattle.floor.specs.Lists.{all}
 use Rattle.floor.specs.Lists.Laws.{and-parts, and-both, or-cases, or-left, or-right, any-mem, mem-any, all-mem, mem-all, mem-getD, getD-mem, upFrom-mem}
 use Rattle.floor.specs.Lists.Laws.{mem-upFrom, implies, implied}
-use Rattle.floor.specs.Jobs.{Entry, Star, Job, Room, Vertex, opposite, frameKind, rooms, isVertex, isRoom, starOf, lists, entryOk, test4, starOk, test5}
-use Rattle.floor.specs.Jobs.{test6}
+use Rattle.floor.specs.Jobs.{Reading, fails, reads, passing, firstSix, test3, Entry, Star, Job, Room, Vertex, opposite, frameKind, rooms, isVertex}
+use Rattle.floor.specs.Jobs.{isRoom, starOf, lists, entryOk, test4, starOk, test5, test6}
 use Rattle.floor.specs.Jobs.Stars.{entry, GoodStar, good-of, of-good, mem-most}
 
 -- rooms and vertices
@@ -152,3 +152,39 @@ of-passes j k = (
   where
     star-ok : (s : Star) → (i : ℕ) × (i < length j) × (getD j i [] ≡ s) → starOk s ≡ true
     star-ok s (i, l, e) = of-good s (rw (star-at j i, e) at (k .good (4 + i) (omega arith, omega arith)))
+
+-- TESTS 3 TO 6 PASSED, one after the other
+pub passing-reads : (b : Bool) (k : ℕ) (r : Reading) (j : Job) → passing b k r ≡ reads j → (b ≡ true) × (r ≡ reads j)
+unfolding passing
+passing-reads true k r j e = (refl, e)
+passing-reads false k r j e = let z : _≡_ {A = ℕ} 0 1 = cc in absurd (omega arith)
+
+pub record SixPassed (r : Reading) (j : Job) : Type 0 where
+  pub reading : r ≡ reads j
+  pub pass3 : test3 j ≡ true
+  pub pass4 : test4 j ≡ true
+  pub pass5 : test5 j ≡ true
+  pub pass6 : test6 j ≡ true
+
+pub six-passed : (r : Reading) (j : Job) → firstSix r ≡ reads j → SixPassed r j
+unfolding firstSix
+six-passed (fails k) j e = let z : _≡_ {A = ℕ} 0 1 = cc in absurd (omega arith)
+six-passed (reads i) j e =
+    let (t3, e4) = passing-reads (test3 i) 3 _ j e in
+    let (t4, e5) = passing-reads (test4 i) 4 _ j e4 in
+    let (t5, e6) = passing-reads (test5 i) 5 _ j e5 in
+    let (t6, q) = passing-reads (test6 i) 6 _ j e6 in
+    go i q t3 t4 t5 t6
+  where
+    go : (i : Job) → reads i ≡ reads j → test3 i ≡ true → test4 i ≡ true → test5 i ≡ true → test6 i ≡ true → SixPassed (reads i) j
+    go i q t3 t4 t5 t6 = let x : i ≡ j = cc in rw x (record {
+      reading = refl;
+      pass3 = rw x at t3;
+      pass4 = rw x at t4;
+      pass5 = rw x at t5;
+      pass6 = rw x at t6;
+    })
+
+pub passed-six : (r : Reading) (j : Job) → SixPassed r j → firstSix r ≡ reads j
+unfolding firstSix passing
+passed-six r j s = rw (s .reading, s .pass3, s .pass4, s .pass5, s .pass6)
