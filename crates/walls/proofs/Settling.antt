@@ -1,0 +1,61 @@
+-- Passes until nothing changes.
+-- Assumes nothing.
+use mathlib.Core.Path.{_≡_, refl, sym, ap, _∙_, subst}
+use mathlib.Core.Bool.{Bool, true, false}
+use mathlib.Core.List.{List, [], _∷_}
+use Prim.Native.Nat.{ℕ, zero, suc, _+_, _-_, _*_, _≤_, _<_}
+use native.Mathlib.Nat.{suc-mul}
+use native.Mathlib.Decide.{decLt}
+use native.Mathlib.Omega.{arith}
+use lib.ListN.{length, getD, set, replicate, length-set, length-replicate, getD-replicate, List·getD-eq-default}
+use lib.Seq.{ext-getD, getD-set-same, getD-set-other}
+use Rattle.walls.specs.declared.Step.the-variants.{Kept, Raised, Over}
+use Rattle.floor.specs.Walls.{Rule, Numbers, Respects, Circle}
+use Rattle.floor.specs.Walls.{at}
+use Rattle.floor.specs.Walls.Relax.{total, Reached, reached-numbers}
+use Rattle.walls.specs.Steps.{Passes, Passed, Enough, Answers}
+
+-- the first i numbers are v
+abbrev pub Filled : List ℕ → ℕ → ℕ → Type 0
+Filled f i v = (j : ℕ) → j < i → getD f j 0 ≡ v
+
+pub filled-more : (f : List ℕ) (i v : ℕ) → i < length f → Filled f i v → Filled (set f i v) (i + 1) v
+filled-more f i v l h j k = go (decLt j i)
+  where
+    go : Dec (j < i) → getD (set f i v) j 0 ≡ v
+    go (yes b) = getD-set-other f i j v 0 (omega arith) ∙ h j b
+    go (no b) =
+        let e : j ≡ i = omega arith in
+        rw e (getD-set-same f i v 0 l)
+
+pub filled-all : (f : List ℕ) (i n v : ℕ) → length f ≡ n → n ≤ i → Filled f i v → f ≡ replicate n v
+filled-all f i n v e l h =
+    ext-getD 0 f (replicate n v) (e ∙ sym (length-replicate {A = ℕ} n v)) (λ j b. h j (omega arith) ∙ sym (getD-replicate {A = ℕ} n j v 0 (omega arith)))
+
+pub ones-capped : (n top : ℕ) → 1 ≤ top → (s : ℕ) → at (replicate n 1) s ≤ top
+ones-capped n top t s = go (decLt s n)
+  where
+    go : Dec (s < n) → at (replicate n 1) s ≤ top
+    go (yes h) = omega (arith, getD-replicate {A = ℕ} n s 1 1 h)
+    go (no h) = omega (arith, List·getD-eq-default {A = ℕ} (replicate n 1) 1 {n = s} (omega (arith, length-replicate {A = ℕ} n 1)))
+
+pub total-capped : (f : List ℕ) (top : ℕ) → ((s : ℕ) → at f s ≤ top) → total f ≤ length f * top
+total-capped [] top h = omega arith
+total-capped (x ∷ f) top h = omega (arith, h 0, total-capped f top (λ s. h (suc s)), suc-mul (length f) top)
+
+pub settled : (E : List Rule) (f f′ : List ℕ) (top n : ℕ) → length f ≡ n → Reached E f → Passes Kept E f f′ top → Answers true E f′ n
+settled E f f′ top n l k p = rw (p .0) (reached-numbers E f k (p .1), l)
+
+pub circle : (E : List Rule) (f f′ : List ℕ) (top : ℕ) → Enough E top → Reached E f → Passes Over E f f′ top → Circle E
+circle E f f′ top en k p g r =
+    let w : Passed E top = p k in
+    omega (arith, en g r (w .side) (w .count) (w .walk), w .more)
+
+-- what is left to raise falls with each pass that raises
+pub falls : (E : List Rule) (f f′ : List ℕ) (top n : ℕ) → length f ≡ n → ((s : ℕ) → at f s ≤ top) → Passes Raised E f f′ top → n * top - total f′ < n * top - total f
+falls E f f′ top n l c g =
+    let m : total f′ ≤ n * top = rw (g .len ∙ l) at (total-capped f′ top (g .capped c)) in
+    omega (arith, g .more)
+
+pub passed-circle : (E : List Rule) (top : ℕ) → Enough E top → Passed E top → Circle E
+passed-circle E top en w g r = omega (arith, en g r (w .side) (w .count) (w .walk), w .more)
