@@ -89,12 +89,12 @@ fn apart_from(star: &[u8], to: u8, kind: u8, from: usize) -> bool
     requires { ⌜ from ≤ length (now star) ⌝ }
     ensures { λ r. ⌜ r ≡ all (apart (pair to kind)) (entries (drop from (now (star .entry)))) ⌝ }
 {
-    let mut i = from;
-    while i + 1 < star.len() {
-        if to == star[i] {
+    let mut j = from;
+    while j + 1 < star.len() {
+        if to == star[j] {
             return false;
         }
-        i += 2;
+        j += 2;
     }
     true
 }

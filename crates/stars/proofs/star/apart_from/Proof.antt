@@ -1,3 +1,4 @@
+use native.Mathlib.Omega.{arith}
 use Prim.Native.Nat.{ℕ, _+_, _-_, _≤_, _<_}
 use mathlib.Core.Path.{_≡_}
 use lib.ListN.{length, drop}
@@ -10,10 +11,11 @@ use Rattle.stars.proofs.star.apart_from.Statement.{statement}
 use Rattle.stars.proofs.star.apart_from.Tie as tie
 
 abbrev Inv-loop : tie.InvT-loop
-Inv-loop star to kind from i₀ i = (i ≤ length star) × (all (apart (pair to kind)) (entries (drop i star)) ≡ all (apart (pair to kind)) (entries (drop «from» star)))
+Inv-loop star to kind from j₀ j =
+    (j ≤ length star) × (all (apart (pair to kind)) (entries (drop j star)) ≡ all (apart (pair to kind)) (entries (drop «from» star)))
 
 abbrev μ-loop : tie.MeasureT-loop
-μ-loop star to kind from i₀ i = length star - i
+μ-loop star to kind from j₀ j = length star - j
 
 loop-holds : tie.Need-loop-holds Inv-loop μ-loop
 loop-holds c = search needs
@@ -25,16 +27,17 @@ shared-slice-read-if1 : tie.Need-shared-slice-read-if1 Inv-loop μ-loop
 shared-slice-read-if1 c = search needs
 
 returns : tie.Need-returns Inv-loop μ-loop
-returns c = search (apart-false, needs)
+returns c = let a = c .before .before .before in apart-false (a .before .args .star .now) _ (a .loop .j) _ (a .before .args .kind) (c .if1 .taken) (omega arith) (a .loop .inv .1)
 
-add-i : tie.Need-add-i Inv-loop μ-loop
-add-i c = search needs
+add-j : tie.Need-add-j Inv-loop μ-loop
+add-j c = search needs
 
 loop-less : tie.Need-loop-less Inv-loop μ-loop
 loop-less c = search needs
 
 loop-again : tie.Need-loop-again Inv-loop μ-loop
-loop-again c = (search needs, search (apart-next, needs))
+loop-again c = let a = c .before .before .before in
+    (search needs, apart-next (a .before .args .star .now) _ (a .loop .j) _ (a .before .args .kind) (c .if1 .left) (omega arith) (a .loop .inv .1))
 
 returns-2 : tie.Need-returns-2 Inv-loop μ-loop
 returns-2 c = search (all-done, needs)
@@ -49,7 +52,7 @@ apart-from-spec =
     add-loop
     shared-slice-read-if1
     returns
-    add-i
+    add-j
     loop-less
     loop-again
     returns-2)
