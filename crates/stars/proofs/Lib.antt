@@ -1,2 +1,4 @@
 pub mod Tables
 pub mod Entries
+pub mod EveryRoom
+pub mod Holding
