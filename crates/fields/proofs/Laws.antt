@@ -4,10 +4,10 @@ use mathlib.Core.Path.{_≡_, refl, sym, _∙_}
 use mathlib.Core.Bool.{Bool, true, false, cond}
 use mathlib.Core.List.{List, [], _∷_}
 use native.Mathlib.Omega.{arith}
-use borrow.Author.Tests.{le-leb, lt-leb}
+use borrow.Author.Tests.{le-leb, lt-leb, leb-true, leb-false}
 use lib.Dec.{leb}
-use lib.ListN.{length, getD, set, take, drop, length-drop}
-use lib.Seq.{drop-cons, drop-drop}
+use lib.ListN.{length, getD, set, take, drop, length-drop, drop-of-length-le}
+use lib.Seq.{drop-cons, drop-drop, drop-length}
 use Rattle.floor.specs.Fields.{Field, broken, field, readField, valueOf, restOf}
 use Rattle.fields.specs.declared.Found.{Found}
 use Rattle.fields.specs.declared.Found.the-variants.{Broken, Whole}
@@ -106,6 +106,56 @@ module _ (s : List ℕ) (at : ℕ) (f : Found) where
         → e ≡ length s - length (restOf (readField (drop at s)))
     unfolding restOf
     after-whole w q p = rw (the-field s at f t a e w q) (simp length-drop (omega (arith, within s at f t a e w p)))
+
+-- what follows the first field is an end of the bytes
+rest-cases : (n t h l : ℕ) (v r : List ℕ) (b : Bool) → leb n (length r) ≡ b
+    → drop (suc (suc (suc (length r))) - length (restOf (cond b (field t v (drop n r)) broken))) (t ∷ h ∷ l ∷ r)
+    ≡ restOf (cond b (field t v (drop n r)) broken)
+unfolding restOf
+rest-cases n t h l v r true e =
+    let k : n ≤ length r = leb-true n (length r) e in
+    let d : suc (suc (suc (length r))) - length (drop n r) ≡ suc (suc (suc n)) = simp length-drop (omega arith) in
+    rw d
+rest-cases n t h l v r false e =
+    let d : suc (suc (suc (length r))) - 0 ≡ suc (suc (suc (length r))) = omega arith in
+    rw (d, drop-length r)
+
+rest-end : (l : List ℕ) → drop (length l - length (restOf (readField l))) l ≡ restOf (readField l)
+unfolding readField restOf
+rest-end [] = refl
+rest-end (t ∷ []) = refl
+rest-end (t ∷ h ∷ []) = refl
+rest-end (t ∷ h ∷ l ∷ r) = rest-cases (256 * h + l) t h l (take (256 * h + l) r) r (leb (256 * h + l) (length r)) refl
+
+rest-cut : (n t : ℕ) (v r : List ℕ) (b : Bool) → length (restOf (cond b (field t v (drop n r)) broken)) ≤ length r
+unfolding restOf
+rest-cut n t v r true = simp length-drop (omega arith)
+rest-cut n t v r false = omega arith
+
+rest-fits : (l : List ℕ) → length (restOf (readField l)) ≤ length l
+unfolding readField restOf
+rest-fits [] = omega arith
+rest-fits (t ∷ []) = omega arith
+rest-fits (t ∷ h ∷ []) = omega arith
+rest-fits (t ∷ h ∷ l ∷ r) = omega (arith, rest-cut (256 * h + l) t (take (256 * h + l) r) r (leb (256 * h + l) (length r)))
+
+after-cases : (s : List ℕ) (at x : ℕ) (b : Bool) → leb at (length s) ≡ b → x ≡ length s - length (restOf (readField (drop at s)))
+    → drop x s ≡ restOf (readField (drop at s))
+unfolding readField restOf
+after-cases s at x true q e =
+    let h : at ≤ length s = leb-true at (length s) q in
+    let l : length (drop at s) ≡ length s - at = length-drop at s in
+    let p : x ≡ at + (length (drop at s) - length (restOf (readField (drop at s)))) = omega (arith, rest-fits (drop at s)) in
+    rw p (sym (drop-drop (length (drop at s) - length (restOf (readField (drop at s)))) at s) ∙ rest-end (drop at s))
+after-cases s at x false q e =
+    let h : length s ≤ at = omega (arith, leb-false at (length s) q) in
+    let n : drop at s ≡ [] = drop-of-length-le s h in
+    let p : x ≡ length s = (rw n at e) ∙ omega arith in
+    rw (n, p) (drop-length s)
+
+-- the place that `after_at` answers is where what follows the field starts
+pub after-drops : (s : List ℕ) (at x : ℕ) → x ≡ length s - length (restOf (readField (drop at s))) → drop x s ≡ restOf (readField (drop at s))
+after-drops s at x e = after-cases s at x (leb at (length s)) refl e
 
 -- the head of a field, put
 module _ (s : List ℕ) (at t n : ℕ) where
