@@ -2,3 +2,4 @@ pub mod Tables
 pub mod Entries
 pub mod EveryRoom
 pub mod Holding
+pub mod Back

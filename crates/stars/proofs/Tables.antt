@@ -10,11 +10,11 @@ use lib.ListN.{length, getD, List·getD-eq-default}
 use Rattle.floor.specs.Lists.{all, upFrom}
 use Rattle.floor.specs.Jobs.{opposite, frameKind}
 
-and-left : (a b : Bool) → a && b ≡ true → a ≡ true
+pub and-left : (a b : Bool) → a && b ≡ true → a ≡ true
 and-left true b h = refl
 and-left false b h = h
 
-and-right : (a b : Bool) → a && b ≡ true → b ≡ true
+pub and-right : (a b : Bool) → a && b ≡ true → b ≡ true
 and-right true b h = h
 and-right false b h = absurd (let z : _≡_ {A = ℕ} 0 1 = cc in omega arith)
 

@@ -1,8 +1,9 @@
 -- Which job the held stars are. Assumes nothing.
 use Prim.Native.Nat.{ℕ, zero, suc, _+_, _-_, _%_, min}
 use mathlib.Core.Bool.{Bool, not, _||_}
-use mathlib.Core.List.{List, [], _∷_}
-use lib.ListN.{length, getD}
+use mathlib.Core.List.{List, [], _∷_, map}
+use lib.ListN.{length, getD, set, replicate}
+use lib.Seq.{sets}
 use lib.Dec.{leb}
 use Rattle.floor.specs.Lists.{all}
 use Rattle.floor.specs.Jobs.{Entry, Star, Job, opposite, starOf, lists}
@@ -52,3 +53,34 @@ answers j u e = not (leb 4 (e .to)) || lists (starOf j (e .to)) u (opposite (e .
 -- every entry of room u's star is answered
 unfoldable pub starAnswers : Job → ℕ → Star → Bool
 starAnswers j u s = all (answers j u) s
+
+-- no stars
+unfoldable pub noStars : Stars
+noStars = record { count = 0; ends = replicate 60 0; nbr = replicate 360 0; kind = replicate 360 0 }
+
+-- a neighbour
+abbrev pub toOf : Entry → ℕ
+toOf e = e .to
+
+-- its kind
+abbrev pub kindOf : Entry → ℕ
+kindOf e = e .kind
+
+-- one star more, its entries from place m on
+unfoldable pub putStar : Stars → ℕ → Star → Stars
+putStar h m s =
+    record {
+      count = h .count + 1;
+      ends = set (h .ends) (h .count) (m + length s);
+      nbr = sets (h .nbr) m (map toOf s);
+      kind = sets (h .kind) m (map kindOf s);
+    }
+
+-- some stars more, their entries from place m on
+unfoldable pub putAll : Stars → ℕ → Job → Stars
+putAll h m [] = h
+putAll h m (s ∷ j) = putAll (putStar h m s) (m + length s) j
+
+-- THE STARS THAT HOLD A JOB
+unfoldable pub heldOf : Job → Stars
+heldOf j = putAll noStars 0 j
