@@ -1,2 +1,4 @@
 pub mod Walks
 pub mod Outlines
+pub mod Filling
+pub mod Testing

@@ -1,6 +1,13 @@
 // Jobs from bytes: tests 1 to 6, the star question, and writing a job back.
+ghost use mathlib.Core.Path.{_≡_};
+ghost use Rattle.floor.specs.Jobs.{readJob, rawStar};
+ghost use Rattle.jobs.specs.Reads.{firstSix, Tells};
+use stars::Stars;
+
 mod outline; // outline.rt: the first field, the number of rooms, and the remaining shape
 mod walk; // walk.rt: tests 4 and 5, star by star along the bytes
+mod fill; // fill.rt: the stars held
+mod tests; // tests.rt: tests 3 to 6 of a job of the right shape
 
 // How many pairs some stars have: no such stars stand there, or their number.
 pub enum Count {
@@ -12,4 +19,45 @@ pub enum Count {
 pub enum Shape {
     Fails(u8),
     Rooms(u8, usize, usize),
+}
+
+// What reading a job answers: tests 1 to 6 are passed, or the number of the first that fails.
+pub enum Answer {
+    Passed,
+    Refused(u8),
+}
+
+// A job, read: the answer, and the stars, none of them where it is refused.
+pub struct Read {
+    pub answer: Answer,
+    pub stars: Stars,
+}
+
+// A job's bytes, read and put through tests 1 to 6.
+pub fn read_job(job: &[u8]) -> Read
+    ensures { λ r. ⌜ Tells r (firstSix (readJob (now (job .entry)))) ⌝ }
+{
+    let shape = outline::shape_of(job);
+    match shape {
+        Shape::Fails(k) => tests::refused(k),
+        Shape::Rooms(n, at, pairs) => tests::tested(job, n, at, pairs),
+    }
+}
+
+// The star question: the very bytes of a room's star; none where the bytes fail test 1 or 2 or the number is no room.
+pub fn raw_star(job: &[u8], room: usize) -> &[u8]
+    ensures { λ r. ⌜ now r ≡ rawStar (now (job .entry)) room ⌝ }
+{
+    let shape = outline::shape_of(job);
+    let Shape::Rooms(n, _, _) = shape else {
+        return &job[0..0];
+    };
+    if room < 4 {
+        return &job[0..0];
+    }
+    if fields::wide(n) + 3 < room {
+        return &job[0..0];
+    }
+    let at = walk::place_after(job, room - 3);
+    fields::value_at(job, at)
 }
