@@ -2,3 +2,4 @@ pub mod Walks
 pub mod Outlines
 pub mod Filling
 pub mod Testing
+pub mod Writing

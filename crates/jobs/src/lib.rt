@@ -2,12 +2,15 @@
 ghost use mathlib.Core.Path.{_≡_};
 ghost use Rattle.floor.specs.Jobs.{readJob, rawStar};
 ghost use Rattle.jobs.specs.Reads.{firstSix, Tells};
+ghost use Rattle.stars.specs.Held.{jobOf};
+ghost use Rattle.jobs.specs.Writes.{replied, writing};
 use stars::Stars;
 
 mod outline; // outline.rt: the first field, the number of rooms, and the remaining shape
 mod walk; // walk.rt: tests 4 and 5, star by star along the bytes
 mod fill; // fill.rt: the stars held
 mod tests; // tests.rt: tests 3 to 6 of a job of the right shape
+mod put; // put.rt: the held stars, written
 
 // How many pairs some stars have: no such stars stand there, or their number.
 pub enum Count {
@@ -31,6 +34,12 @@ pub enum Answer {
 pub struct Read {
     pub answer: Answer,
     pub stars: Stars,
+}
+
+// What writing a job answers: the length that was written, or that the buffer is too short.
+pub enum Written {
+    Wrote(usize),
+    TooShort,
 }
 
 // A job's bytes, read and put through tests 1 to 6.
@@ -60,4 +69,18 @@ pub fn raw_star(job: &[u8], room: usize) -> &[u8]
     }
     let at = walk::place_after(job, room - 3);
     fields::value_at(job, at)
+}
+
+// The held job, written to the front of a lent buffer; nothing behind it is touched, and nothing at all where it is too short.
+pub fn write_job(stars: Stars, out: &mut [u8]) -> Written
+    ensures { λ r. ⌜ (replied r ≡ writing (jobOf stars) (now (out .entry)) .reply) × (now (out .exit) ≡ writing (jobOf stars) (now (out .entry)) .buffer) ⌝ }
+{
+    let length = put::job_length(stars);
+    if out.len() < length {
+        return Written::TooShort;
+    }
+    fields::put_head(out, 0, 1, 1);
+    out[3] = stars.count;
+    put::put_stars(out, stars, 4);
+    Written::Wrote(length)
 }
