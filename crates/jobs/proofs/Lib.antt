@@ -3,3 +3,4 @@ pub mod Outlines
 pub mod Filling
 pub mod Testing
 pub mod Writing
+pub mod Corollaries

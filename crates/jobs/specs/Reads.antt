@@ -3,6 +3,8 @@ use Prim.Native.Nat.{ℕ}
 use mathlib.Core.Path.{_≡_}
 use mathlib.Core.Bool.{Bool, true, false}
 use Rattle.floor.specs.Jobs.{Job, Reading, fails, reads, test3, test4, test5, test6}
+use Rattle.floor.specs.Plans.{refused, drawn}
+use Rattle.floor.specs.Plans.{Answer as Loaded}
 use Rattle.stars.specs.declared.Stars.{Stars}
 use Rattle.stars.specs.Held.{jobOf, noStars, heldOf}
 use Rattle.jobs.specs.declared.Answer.{Answer}
@@ -37,3 +39,8 @@ firstSix (reads j) = passing (test3 j) 3 (passing (test4 j) 4 (passing (test5 j)
 pub record Tells (r : Read) (x : Reading) : Type 0 where
   pub says : outcome r ≡ x
   pub keeps : r .stars ≡ kept x
+
+-- what becomes of a load once tests 1 to 6 are done
+unfoldable pub drawnFrom : Reading → Loaded
+drawnFrom (fails k) = refused k
+drawnFrom (reads j) = drawn j
