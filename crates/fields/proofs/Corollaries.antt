@@ -1,10 +1,10 @@
 -- What follows from the promises: two answers that one allows are equal. Assumes nothing.
-use Prim.Native.Nat.{ℕ, _+_, _-_, _≤_}
+use Prim.Native.Nat.{ℕ, _-_, _≤_}
 use mathlib.Core.Path.{_≡_, refl, sym, _∙_, ap}
 use mathlib.Core.List.{List}
 use native.Mathlib.Omega.{arith}
-use lib.ListN.{length, take, drop, length-drop}
-use Rattle.floor.specs.Fields.{Field, broken, field, readField, restOf}
+use lib.ListN.{length, drop, length-drop}
+use Rattle.floor.specs.Fields.{readField}
 use Rattle.fields.specs.declared.Found.{Found}
 use Rattle.fields.specs.declared.Found.the-variants.{Broken, Whole}
 use Rattle.fields.specs.Found.{found, stands}

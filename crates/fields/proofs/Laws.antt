@@ -1,5 +1,5 @@
 -- The field at a place, as the code comes by it, and what its callers learn. Assumes nothing.
-use Prim.Native.Nat.{ℕ, zero, suc, _+_, _*_, _-_, _/_, _%_, _<_, _≤_}
+use Prim.Native.Nat.{ℕ, suc, _+_, _*_, _-_, _/_, _%_, _<_, _≤_}
 use mathlib.Core.Path.{_≡_, refl, sym, _∙_}
 use mathlib.Core.Bool.{Bool, true, false, cond}
 use mathlib.Core.List.{List, [], _∷_}
@@ -8,7 +8,7 @@ use borrow.Author.Tests.{le-leb, lt-leb, leb-true, leb-false}
 use lib.Dec.{leb}
 use lib.ListN.{length, getD, set, take, drop, length-drop, drop-of-length-le}
 use lib.Seq.{drop-cons, drop-drop, drop-length}
-use Rattle.floor.specs.Fields.{Field, broken, field, readField, valueOf, restOf}
+use Rattle.floor.specs.Fields.{broken, field, readField, valueOf, restOf}
 use Rattle.fields.specs.declared.Found.{Found}
 use Rattle.fields.specs.declared.Found.the-variants.{Broken, Whole}
 use Rattle.fields.specs.Found.{found, stands, withHead}

@@ -6,7 +6,7 @@ use mathlib.Core.List.{List}
 use native.Mathlib.Omega.{arith}
 use Rattle.floor.specs.Jobs.{Job, Reading, fails, reads, readJob, rawStar, test3, test4, test5, test6}
 use Rattle.floor.specs.Plans.{past, drawn}
-use Rattle.floor.specs.Calls.{Reply, wrote, refusal, loadRead, load}
+use Rattle.floor.specs.Calls.{Reply, loadRead, load}
 use Rattle.stars.specs.declared.Stars.{Stars}
 use Rattle.stars.specs.Held.{jobOf}
 use Rattle.jobs.specs.declared.Answer.{Answer}
@@ -14,7 +14,7 @@ use Rattle.jobs.specs.declared.Answer.the-variants.{Passed, Refused}
 use Rattle.jobs.specs.declared.Read.{Read}
 use Rattle.jobs.specs.declared.Written.{Written}
 use Rattle.jobs.specs.declared.Written.the-variants.{Wrote, TooShort}
-use Rattle.jobs.specs.Reads.{said, outcome, kept, passing, firstSix, Tells, drawnFrom}
+use Rattle.jobs.specs.Reads.{said, outcome, passing, firstSix, Tells, drawnFrom}
 use Rattle.jobs.specs.Writes.{replied, writing}
 
 same-answer : (a b : Answer) (j : Job) (x : Reading) → said a j ≡ x → said b j ≡ x → a ≡ b
@@ -52,7 +52,8 @@ pub one-writing : (h : Stars) (o : List ℕ) (a b : Written) (x y : List ℕ)
     → (replied b ≡ writing (jobOf h) o .reply) × (y ≡ writing (jobOf h) o .buffer) → (a ≡ b) × (x ≡ y)
 one-writing h o a b x y p q = (same-reply a b (writing (jobOf h) o .reply) (p .0) (q .0), p .1 ∙ sym (q .1))
 
-after-tests : (j : Job) (a b c d : Bool) → past a 3 (λ _. past b 4 (λ _. past c 5 (λ _. past d 6 (λ _. drawn j)))) ≡ drawnFrom (passing a 3 (passing b 4 (passing c 5 (passing d 6 (reads j)))))
+after-tests : (j : Job) (a b c d : Bool)
+    → past a 3 (λ _. past b 4 (λ _. past c 5 (λ _. past d 6 (λ _. drawn j)))) ≡ drawnFrom (passing a 3 (passing b 4 (passing c 5 (passing d 6 (reads j)))))
 unfolding past passing drawnFrom
 after-tests j false b c d = refl
 after-tests j true false c d = refl
@@ -80,7 +81,8 @@ unfolding firstSix
 passed-six (fails k) i e = absurd (let z : _≡_ {A = ℕ} 0 1 = cc in omega arith)
 passed-six (reads j) i e =
     let same : j ≡ i =
-      passed-once j i 3 (test3 j) _ e (λ e₃. passed-once j i 4 (test4 j) _ e₃ (λ e₄. passed-once j i 5 (test5 j) _ e₄ (λ e₅. passed-once j i 6 (test6 j) _ e₅ (λ e₆. cc)))) in
+    passed-once j i 3 (test3 j) _ e
+    (λ e₃. passed-once j i 4 (test4 j) _ e₃ (λ e₄. passed-once j i 5 (test5 j) _ e₄ (λ e₅. passed-once j i 6 (test6 j) _ e₅ (λ e₆. cc)))) in
     rw same
 
 -- THE HELD JOB IS THE ONE THAT WAS READ

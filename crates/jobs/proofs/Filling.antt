@@ -1,13 +1,13 @@
 -- The stars put one behind the other, as the code comes by them. Assumes nothing.
-use Prim.Native.Nat.{ℕ, zero, suc, _+_, _-_, _*_, _/_, _<_, _≤_}
-use mathlib.Core.Path.{_≡_, refl, sym, _∙_}
-use mathlib.Core.List.{List, [], _∷_, map}
+use Prim.Native.Nat.{ℕ, suc, _+_, _-_, _*_, _/_, _<_, _≤_}
+use mathlib.Core.Path.{_≡_}
+use mathlib.Core.List.{List, map}
 use native.Mathlib.Omega.{arith}
-use lib.ListN.{length, getD, drop, set}
+use lib.ListN.{length, drop, set}
 use lib.Seq.{sets}
 use Rattle.floor.specs.Lists.{sum}
 use Rattle.floor.specs.Fields.{readField, valueOf, restOf}
-use Rattle.floor.specs.Jobs.{Entry, Star, Job, pairsIn, entries}
+use Rattle.floor.specs.Jobs.{Entry, pairsIn, entries}
 use Rattle.stars.specs.declared.Stars.{Stars}
 use Rattle.stars.specs.Held.{toOf, kindOf, noStars, putStar, putAll, heldOf}
 use Rattle.stars.proofs.Entries.{here, entries-more, entries-done}
@@ -17,7 +17,8 @@ use Rattle.jobs.proofs.Walks.{next-star, no-star, behind}
 
 -- the entries of one star, put one by one: what is left to put, put, gives the whole
 module _ (g : Entry → ℕ) (s a w : List ℕ) (m i : ℕ) where
-  pub fill-more : (x : ℕ) → x ≡ g (here s (2 * i)) → sets a (m + i) (map g (entries (drop (2 * i) s))) ≡ w → i < length s / 2 → sets (set a (m + i) x) (m + (i + 1)) (map g (entries (drop (2 * (i + 1)) s))) ≡ w
+  pub fill-more : (x : ℕ) → x ≡ g (here s (2 * i)) → sets a (m + i) (map g (entries (drop (2 * i) s))) ≡ w → i < length s / 2
+      → sets (set a (m + i) x) (m + (i + 1)) (map g (entries (drop (2 * (i + 1)) s))) ≡ w
   fill-more x q inv h =
       let e₁ : m + (i + 1) ≡ suc (m + i) = omega arith in
       let e₂ : 2 * (i + 1) ≡ 2 * i + 2 = omega arith in
@@ -26,7 +27,9 @@ module _ (g : Entry → ℕ) (s a w : List ℕ) (m i : ℕ) where
   pub fill-done : sets a (m + i) (map g (entries (drop (2 * i) s))) ≡ w → length s / 2 ≤ i → a ≡ w
   fill-done inv h = rw (entries-done s (2 * i) (omega arith)) at inv
 
-pub star-put : (h : Stars) (m : ℕ) (s x y z : List ℕ) (n : ℕ) → n ≡ h .count → x ≡ sets (h .nbr) m (map toOf (entries s)) → y ≡ sets (h .kind) m (map kindOf (entries s)) → z ≡ h .ends → record { count = h .count + 1; ends = set z n (m + length s / 2); nbr = x; kind = y } ≡ putStar h m (entries s)
+pub star-put : (h : Stars) (m : ℕ) (s x y z : List ℕ) (n : ℕ) → n ≡ h .count → x ≡ sets (h .nbr) m (map toOf (entries s))
+    → y ≡ sets (h .kind) m (map kindOf (entries s)) → z ≡ h .ends
+    → record { count = h .count + 1; ends = set z n (m + length s / 2); nbr = x; kind = y } ≡ putStar h m (entries s)
 unfolding putStar
 star-put h m s x y z n e ex ey ez = rw (entries-length s, ← ex, ← ey, ← ez, e)
 
@@ -38,14 +41,16 @@ module _ (s : List ℕ) (n i at m : ℕ) (v : List ℕ) where
       let k′ = rw (next-star s n i at h, ← e) at k in
       omega (arith, entries-length v)
 
-  pub room-behind : (x : ℕ) → i < n → v ≡ valueOf (readField (drop at s)) → x ≡ length s - length (restOf (readField (drop at s))) → m + pairsIn (starsAt (n - i) (drop at s)) ≤ 360 → m + length v / 2 + pairsIn (starsAt (n - (i + 1)) (drop x s)) ≤ 360
+  pub room-behind : (x : ℕ) → i < n → v ≡ valueOf (readField (drop at s)) → x ≡ length s - length (restOf (readField (drop at s)))
+      → m + pairsIn (starsAt (n - i) (drop at s)) ≤ 360 → m + length v / 2 + pairsIn (starsAt (n - (i + 1)) (drop x s)) ≤ 360
   unfolding pairsIn sum
   room-behind x h e p k =
       let k′ = rw (next-star s n i at h, ← e, behind s n i at x p) at k in
       omega (arith, entries-length v)
 
   module _ (a w : Stars) where
-    pub hold-next : (b : Stars) (x : ℕ) → i < n → v ≡ valueOf (readField (drop at s)) → x ≡ length s - length (restOf (readField (drop at s))) → b ≡ putStar a m (entries v) → putAll a m (starsAt (n - i) (drop at s)) ≡ w → putAll b (m + length v / 2) (starsAt (n - (i + 1)) (drop x s)) ≡ w
+    pub hold-next : (b : Stars) (x : ℕ) → i < n → v ≡ valueOf (readField (drop at s)) → x ≡ length s - length (restOf (readField (drop at s)))
+        → b ≡ putStar a m (entries v) → putAll a m (starsAt (n - i) (drop at s)) ≡ w → putAll b (m + length v / 2) (starsAt (n - (i + 1)) (drop x s)) ≡ w
     unfolding putAll
     hold-next b x h e p q inv =
         let inv′ = rw (next-star s n i at h, ← e, behind s n i at x p) at inv in

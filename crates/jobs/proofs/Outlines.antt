@@ -1,24 +1,23 @@
 -- The shape of a job's bytes, as the code comes by it. Assumes nothing.
 use Prim.Native.Nat.{ℕ, zero, suc, _+_, _-_, _/_, _%_, _<_, _≤_}
-use mathlib.Core.Path.{_≡_, refl, sym, _∙_, ap}
-use mathlib.Core.Bool.{Bool, true, false, cond, not, _&&_}
+use mathlib.Core.Path.{_≡_, refl, sym, _∙_}
+use mathlib.Core.Bool.{Bool, true, false, cond, _&&_}
 use mathlib.Core.Option.{Option, none, some}
 use mathlib.Core.List.{List, [], _∷_, map}
 use native.Mathlib.Omega.{arith}
 use borrow.Author.Tests.{le-leb, lt-leb, eq-eqb, ne-eqb}
-use lib.Dec.{leb, eqb}
+use lib.Dec.{eqb}
 use lib.ListN.{length, getD, take, drop, length-drop, drop-of-length-le}
 use lib.Seq.{drop-cons, length-take-le, getD-take, getD-drop}
 use Rattle.floor.specs.Lists.{sum}
 use Rattle.floor.specs.Fields.{Field, broken, field, readField, valueOf, restOf}
-use Rattle.floor.specs.Jobs.{Star, Job, pairsIn, entries, starThen, readStars, test2, Reading, fails, reads, readRest, readRooms, readFirst, readJob}
+use Rattle.floor.specs.Jobs.{Job, pairsIn, entries, starThen, readStars, test2, fails, reads, readRest, readRooms, readFirst, readJob}
 use Rattle.fields.specs.declared.Found.{Found}
 use Rattle.fields.specs.declared.Found.the-variants.{Broken, Whole}
 use Rattle.fields.specs.Found.{found, stands}
 use Rattle.fields.proofs.Laws.{no-field, the-field, starts, in-order, within}
 use Rattle.jobs.specs.declared.Count.{Count}
 use Rattle.jobs.specs.declared.Count.the-variants.{Unshaped, Pairs}
-use Rattle.jobs.specs.declared.Shape.{Shape}
 use Rattle.jobs.specs.declared.Shape.the-variants.{Fails, Rooms}
 use Rattle.jobs.specs.Shapes.{counted, pairsPast, starsAt, reading, told}
 
@@ -60,7 +59,8 @@ module _ (s : List ℕ) (n i at p : ℕ) (w : Option ℕ) where
     unfolding pairsPast starThen counted
     count-broken b e h inv = rw (no-field s at f b e) at (next h inv)
 
-    module _ (t a e : ℕ) (here : f ≡ Whole t a e) (q : found f s ≡ readField (drop at s)) (k : stands f at (length s)) (h : i < n) (inv : pairsPast p (readStars (n - i) (drop at s)) ≡ w) where
+    module _ (t a e : ℕ) (here : f ≡ Whole t a e) (q : found f s ≡ readField (drop at s)) (k : stands f at (length s)) (h : i < n)
+        (inv : pairsPast p (readStars (n - i) (drop at s)) ≡ w) where
       abbrev value : List ℕ
       value = take (e - a) (drop a s)
 

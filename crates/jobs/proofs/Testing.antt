@@ -2,14 +2,14 @@
 use Prim.Native.Nat.{ℕ, zero, suc, _+_, _-_, _<_, _≤_}
 use mathlib.Core.Path.{_≡_, refl, sym, _∙_, ap}
 use mathlib.Core.Bool.{Bool, true, false, cond, not, _&&_}
-use mathlib.Core.List.{List, [], _∷_}
+use mathlib.Core.List.{List, []}
 use native.Mathlib.Omega.{arith}
 use borrow.Author.Tests.{le-leb, lt-leb, leb-true, not-true, not-false}
 use lib.Dec.{leb}
 use lib.ListN.{length, drop}
 use Rattle.floor.specs.Lists.{all}
 use Rattle.floor.specs.Fields.{readField, valueOf, restOf, afterFields}
-use Rattle.floor.specs.Jobs.{Star, Job, isVertex, isRoom, pairsIn, entries, entryOk, starOk, test2, test3, test4, test5, test6}
+use Rattle.floor.specs.Jobs.{Job, isVertex, isRoom, pairsIn, starOk, test2, test3, test4, test5, test6}
 use Rattle.floor.specs.Jobs.{Reading, fails, reads, readJob, rawFrom, rawStar}
 use Rattle.stars.specs.declared.Stars.{Stars}
 use Rattle.stars.specs.Rooms.{allFrom}
@@ -72,7 +72,8 @@ module _ (s : List ℕ) (n at : ℕ) where
           unfolding firstSix passing
           tells-5 e nb = rw (test3-yes h, ← test4-walked a ea, not-false a na, ← test5-walked b eb, not-true b nb) e
 
-  module _ (p : ℕ) (few : n ≤ 60) (count : p ≡ pairsIn job) (h : p ≤ 360) (a b d : Bool) (ea : a ≡ allFrom (entriesOk n) 4 job) (na : not a ≡ false) (eb : b ≡ all starOk job) (nb : not b ≡ false) (g : Stars) (eg : g ≡ heldOf job) (ed : d ≡ test6 (jobOf g)) where
+  module _ (p : ℕ) (few : n ≤ 60) (count : p ≡ pairsIn job) (h : p ≤ 360) (a b d : Bool) (ea : a ≡ allFrom (entriesOk n) 4 job) (na : not a ≡ false)
+      (eb : b ≡ all starOk job) (nb : not b ≡ false) (g : Stars) (eg : g ≡ heldOf job) (ed : d ≡ test6 (jobOf g)) where
     same-job : jobOf g ≡ job
     same-job = rw eg (job-back job (omega (arith, stars-length n (drop at s))) (omega arith) (sym (test4-walked a ea) ∙ not-false a na))
 
@@ -85,7 +86,8 @@ module _ (s : List ℕ) (n at : ℕ) where
 
     pub tells-job : not d ≡ false → Tells (record { answer = Passed; stars = g }) (firstSix (reads job))
     unfolding firstSix passing outcome said kept
-    tells-job nd = rw (test3-yes p count h, ← test4-walked a ea, not-false a na, ← test5-walked b eb, not-false b nb, ← test6-held, not-false d nd) (record { says = rw same-job; keeps = eg })
+    tells-job nd = rw (test3-yes p count h, ← test4-walked a ea, not-false a na, ← test5-walked b eb, not-false b nb, ← test6-held, not-false d nd)
+        (record { says = rw same-job; keeps = eg })
 
 -- what the shape tells
 module _ (s : List ℕ) (f : Shape) (x : Read) where
@@ -123,5 +125,6 @@ module _ (s : List ℕ) (f : Shape) (v : ℕ) where
     pub raw-past : (m : ℕ) → 4 ≤ v → m ≡ n → m + 3 < v → [] ≡ rawStar s v
     raw-past m g h l = rw (raw-room, le-leb 4 v g, ← h, lt-leb v (m + 3) l)
 
-    pub raw-value : (m at : ℕ) (r : List ℕ) → 4 ≤ v → m ≡ n → v ≤ m + 3 → drop at s ≡ afterFields (v - 3) s → r ≡ valueOf (readField (drop at s)) → r ≡ rawStar s v
+    pub raw-value : (m at : ℕ) (r : List ℕ) → 4 ≤ v → m ≡ n → v ≤ m + 3 → drop at s ≡ afterFields (v - 3) s → r ≡ valueOf (readField (drop at s))
+        → r ≡ rawStar s v
     raw-value m at r g h l d w = rw (raw-room, le-leb 4 v g, ← h, le-leb v (m + 3) l, ← d) w

@@ -1,14 +1,14 @@
 -- The stars along a job's bytes, as the walks come by them. Assumes nothing.
-use Prim.Native.Nat.{ℕ, zero, suc, _+_, _-_, _<_, _≤_}
-use mathlib.Core.Path.{_≡_, refl, sym, _∙_}
-use mathlib.Core.Bool.{Bool, true, false, not, _&&_}
+use Prim.Native.Nat.{ℕ, suc, _+_, _-_, _<_, _≤_}
+use mathlib.Core.Path.{_≡_}
+use mathlib.Core.Bool.{Bool, true, false, not}
 use mathlib.Core.List.{List, [], _∷_}
 use native.Mathlib.Omega.{arith}
 use borrow.Author.Tests.{not-true, not-false}
 use lib.ListN.{length, drop}
 use Rattle.floor.specs.Lists.{all}
 use Rattle.floor.specs.Fields.{readField, valueOf, restOf, afterFields}
-use Rattle.floor.specs.Jobs.{Star, Job, entryOk, entries, starOk}
+use Rattle.floor.specs.Jobs.{entryOk, entries, starOk}
 use Rattle.stars.specs.Rooms.{allFrom}
 use Rattle.fields.proofs.Laws.{after-drops}
 use Rattle.jobs.specs.Shapes.{starsAt, entriesOk}

@@ -1,27 +1,28 @@
 -- The held stars, written field by field, as the code comes by them. Assumes nothing.
-use Prim.Native.Nat.{ℕ, zero, suc, _+_, _-_, _*_, _/_, _%_, _<_, _≤_}
+use Prim.Native.Nat.{ℕ, zero, suc, _+_, _-_, _*_, _<_, _≤_}
 use mathlib.Core.Path.{_≡_, refl, sym, _∙_, ap}
-use mathlib.Core.Bool.{Bool, true, false, cond}
+use mathlib.Core.Bool.{true, false}
 use mathlib.Core.List.{List, [], _∷_, _++_}
 use native.Mathlib.Omega.{arith}
 use borrow.Author.Tests.{le-leb, lt-leb}
 use lib.Dec.{leb}
-use lib.ListN.{length, getD, drop, set, length-append}
+use lib.ListN.{length, getD, set, length-append}
 use lib.Seq.{sets, sets-eq}
 use Rattle.floor.specs.Fields.{writeField}
-use Rattle.floor.specs.Jobs.{Entry, Star, Job, starBytes, writeStars, writeJob}
-use Rattle.floor.specs.Calls.{Board, empty, Reply, refusal, wrote, Step, refuse, writes}
+use Rattle.floor.specs.Jobs.{Star, starBytes, writeStars, writeJob}
+use Rattle.floor.specs.Calls.{refuse, writes}
 use Rattle.fields.specs.Found.{withHead}
 use Rattle.stars.specs.declared.Stars.{Stars}
 use Rattle.stars.specs.Held.{toAt, entryAt, cells, startOf, endOf, heldStar, starsIn, jobOf}
 use Rattle.stars.proofs.Holding.{length-stars}
-use Rattle.jobs.specs.declared.Written.{Written}
 use Rattle.jobs.specs.declared.Written.the-variants.{Wrote, TooShort}
 use Rattle.jobs.specs.Writes.{starField, replied, writing}
 
 -- the entries of a part, put one by one: what is left to put, put, gives the whole
 module _ (o w nbr kind : List ℕ) (at from m i : ℕ) where
-  pub put-more : (x y : ℕ) → sets o (at + 2 * i) (starBytes (cells (m - i) (from + i) nbr kind)) ≡ w → i < m → x ≡ toAt nbr (from + i) → y ≡ getD kind (from + i) 0 → sets (set (set o (at + 2 * i) x) (at + 2 * i + 1) y) (at + 2 * (i + 1)) (starBytes (cells (m - (i + 1)) (from + (i + 1)) nbr kind)) ≡ w
+  pub put-more : (x y : ℕ) → sets o (at + 2 * i) (starBytes (cells (m - i) (from + i) nbr kind)) ≡ w → i < m → x ≡ toAt nbr (from + i)
+      → y ≡ getD kind (from + i) 0
+      → sets (set (set o (at + 2 * i) x) (at + 2 * i + 1) y) (at + 2 * (i + 1)) (starBytes (cells (m - (i + 1)) (from + (i + 1)) nbr kind)) ≡ w
   unfolding starBytes cells entryAt
   put-more x y inv h ex ey =
       let e₀ : m - i ≡ suc (m - (i + 1)) = omega arith in
@@ -71,7 +72,8 @@ module _ (ends nbr kind : List ℕ) (i : ℕ) where
   pub field-end : (at m : ℕ) → m ≡ many → at + 3 + 2 * m ≡ at + length (starField ends nbr kind i)
   field-end at m e = omega (arith, length-field m e)
 
-  pub field-put : (o h x : List ℕ) (at from m : ℕ) → m ≡ many → from ≡ begin → at + length (starField ends nbr kind i) ≤ length o → h ≡ withHead o at 2 (2 * m) → x ≡ sets h (at + 3) (starBytes (cells m from nbr kind)) → x ≡ sets o at (starField ends nbr kind i)
+  pub field-put : (o h x : List ℕ) (at from m : ℕ) → m ≡ many → from ≡ begin → at + length (starField ends nbr kind i) ≤ length o → h ≡ withHead o at 2 (2 * m)
+      → x ≡ sets h (at + 3) (starBytes (cells m from nbr kind)) → x ≡ sets o at (starField ends nbr kind i)
   unfolding starField writeField heldStar withHead
   field-put o h x at from m em ef room eh ex =
       let l : length (starBytes (cells m from nbr kind)) ≡ 2 * m = omega (arith, length-bytes (cells m from nbr kind), length-cells m from nbr kind) in
@@ -88,20 +90,24 @@ module _ (ends nbr kind : List ℕ) (n i : ℕ) (h : i < n) where
       let s : i + 1 ≡ suc i = omega arith in
       rw (d, s)
 
-  next-length : length (writeStars (starsIn (n - i) i ends nbr kind)) ≡ length (starField ends nbr kind i) + length (writeStars (starsIn (n - (i + 1)) (i + 1) ends nbr kind))
+  next-length : length (writeStars (starsIn (n - i) i ends nbr kind))
+      ≡ length (starField ends nbr kind i) + length (writeStars (starsIn (n - (i + 1)) (i + 1) ends nbr kind))
   next-length = rw next-field (length-append (starField ends nbr kind i) (writeStars (starsIn (n - (i + 1)) (i + 1) ends nbr kind)))
 
   pub room-field : (at l k : ℕ) → k ≡ l → at + length (writeStars (starsIn (n - i) i ends nbr kind)) ≤ l → at + length (starField ends nbr kind i) ≤ k
   room-field at l k q r = omega (arith, next-length)
 
-  pub room-later : (at l y : ℕ) → y ≡ at + length (starField ends nbr kind i) → at + length (writeStars (starsIn (n - i) i ends nbr kind)) ≤ l → y + length (writeStars (starsIn (n - (i + 1)) (i + 1) ends nbr kind)) ≤ l
+  pub room-later : (at l y : ℕ) → y ≡ at + length (starField ends nbr kind i) → at + length (writeStars (starsIn (n - i) i ends nbr kind)) ≤ l
+      → y + length (writeStars (starsIn (n - (i + 1)) (i + 1) ends nbr kind)) ≤ l
   room-later at l y e k = omega (arith, next-length)
 
-  pub stars-more : (o w x : List ℕ) (at y : ℕ) → x ≡ sets o at (starField ends nbr kind i) → y ≡ at + length (starField ends nbr kind i) → sets o at (writeStars (starsIn (n - i) i ends nbr kind)) ≡ w → sets x y (writeStars (starsIn (n - (i + 1)) (i + 1) ends nbr kind)) ≡ w
+  pub stars-more : (o w x : List ℕ) (at y : ℕ) → x ≡ sets o at (starField ends nbr kind i) → y ≡ at + length (starField ends nbr kind i)
+      → sets o at (writeStars (starsIn (n - i) i ends nbr kind)) ≡ w → sets x y (writeStars (starsIn (n - (i + 1)) (i + 1) ends nbr kind)) ≡ w
   stars-more o w x at y ex ey inv =
       rw (ex, ey) (sym (sets-append o at (starField ends nbr kind i) (writeStars (starsIn (n - (i + 1)) (i + 1) ends nbr kind))) ∙ (rw next-field at inv))
 
-  pub total-more : (t l m : ℕ) → m ≡ endOf ends (length nbr) i - startOf ends (length nbr) i → t + length (writeStars (starsIn (n - i) i ends nbr kind)) ≡ l → t + (3 + 2 * m) + length (writeStars (starsIn (n - (i + 1)) (i + 1) ends nbr kind)) ≡ l
+  pub total-more : (t l m : ℕ) → m ≡ endOf ends (length nbr) i - startOf ends (length nbr) i → t + length (writeStars (starsIn (n - i) i ends nbr kind)) ≡ l
+      → t + (3 + 2 * m) + length (writeStars (starsIn (n - (i + 1)) (i + 1) ends nbr kind)) ≡ l
   total-more t l m e k = omega (arith, next-length, length-field ends nbr kind i m e)
 
 module _ (ends nbr kind : List ℕ) (n i : ℕ) (h : n ≤ i) where
@@ -140,7 +146,8 @@ module _ (h : Stars) where
       rw (z, job-stars n e) (sym length-job)
 
   pub put-first : (o : List ℕ) (n at : ℕ) → n ≡ h .count → at + length (writeStars (jobOf h)) ≤ length o
-      → (length o ≡ length o) × (at + length (writeStars (starsIn (n - 0) 0 (h .ends) (h .nbr) (h .kind))) ≤ length o) × (sets o at (writeStars (starsIn (n - 0) 0 (h .ends) (h .nbr) (h .kind))) ≡ sets o at (writeStars (jobOf h)))
+      → (length o ≡ length o) × (at + length (writeStars (starsIn (n - 0) 0 (h .ends) (h .nbr) (h .kind))) ≤ length o)
+      × (sets o at (writeStars (starsIn (n - 0) 0 (h .ends) (h .nbr) (h .kind))) ≡ sets o at (writeStars (jobOf h)))
   put-first o n at e k =
       let z : n - 0 ≡ n = omega arith in
       (refl, rw (z, job-stars n e) k, rw (z, job-stars n e))
@@ -152,7 +159,8 @@ module _ (h : Stars) where
         let z : leb (length (writeJob (jobOf h))) (length o) ≡ false = lt-leb (length (writeJob (jobOf h))) (length o) (omega arith) in
         (rw z, rw z)
 
-    pub write-done : (x y : List ℕ) → y ≡ withHead o 0 1 1 → x ≡ sets (set y 3 (h .count)) 4 (writeStars (jobOf h)) → l ≤ length o → (replied (Wrote l) ≡ writing (jobOf h) o .reply) × (x ≡ writing (jobOf h) o .buffer)
+    pub write-done : (x y : List ℕ) → y ≡ withHead o 0 1 1 → x ≡ sets (set y 3 (h .count)) 4 (writeStars (jobOf h)) → l ≤ length o
+        → (replied (Wrote l) ≡ writing (jobOf h) o .reply) × (x ≡ writing (jobOf h) o .buffer)
     unfolding replied writing writes withHead
     write-done x y ey ex k =
         let z : leb (length (writeJob (jobOf h))) (length o) ≡ true = le-leb (length (writeJob (jobOf h))) (length o) (omega arith) in

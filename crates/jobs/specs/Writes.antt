@@ -5,7 +5,7 @@ use lib.ListN.{length}
 use lib.Dec.{leb}
 use Rattle.floor.specs.Fields.{writeField}
 use Rattle.floor.specs.Jobs.{Job, starBytes, writeJob}
-use Rattle.floor.specs.Calls.{Board, empty, Reply, refusal, wrote, Step, writes}
+use Rattle.floor.specs.Calls.{empty, Reply, refusal, wrote, Step, writes}
 use Rattle.stars.specs.Held.{heldStar}
 use Rattle.jobs.specs.declared.Written.{Written}
 use Rattle.jobs.specs.declared.Written.the-variants.{Wrote, TooShort}

@@ -1,12 +1,12 @@
 -- The stars that hold a job give that job back. Assumes nothing.
-use Prim.Native.Nat.{ℕ, zero, suc, _+_, _-_, _%_, _<_, _≤_, min}
+use Prim.Native.Nat.{ℕ, zero, suc, _+_, _-_, _%_, _<_, _≤_}
 use mathlib.Core.Path.{_≡_, refl, sym, _∙_, subst}
-use mathlib.Core.Bool.{Bool, true, false, not, _&&_, _||_}
-use mathlib.Core.List.{List, [], _∷_, _++_, map}
+use mathlib.Core.Bool.{Bool, true, not, _&&_, _||_}
+use mathlib.Core.List.{List, [], _∷_, map}
 use native.Mathlib.Omega.{arith}
-use borrow.Author.Tests.{leb-true, lt-ltb, ltb-true, le-leb}
+use borrow.Author.Tests.{leb-true, lt-ltb, ltb-true}
 use lib.Dec.{leb, ltb, eqb}
-use lib.ListN.{length, getD, set, replicate, length-set, length-map, length-replicate}
+use lib.ListN.{length, getD, set, length-set, length-replicate}
 use lib.Seq.{sets, length-sets, getD-set-same, getD-set-other}
 use Rattle.floor.specs.Lists.{all, sum}
 use Rattle.floor.specs.Jobs.{Entry, Star, Job, frameKind, pairsIn, entryOk, test4}
@@ -20,6 +20,10 @@ use Rattle.stars.proofs.EveryRoom.{test4-stars}
 sets-below : (l vs : List ℕ) (i k : ℕ) → k < i → getD (sets l i vs) k 0 ≡ getD l k 0
 sets-below l [] i k h = refl
 sets-below l (v ∷ vs) i k h = sets-below (set l i v) vs (suc i) k (omega arith) ∙ getD-set-other l i k v 0 (λ e. omega arith)
+
+-- what is put first stays
+first-put : (l vs : List ℕ) (k v : ℕ) → k < length l → getD (sets (set l k v) (suc k) vs) k 0 ≡ v
+first-put l vs k v h = sets-below (set l k v) vs (suc k) k (omega arith) ∙ getD-set-same l k v 0 h
 
 module _ where
   all-count : (h : Stars) (m : ℕ) (j : Job) → putAll h m j .count ≡ h .count + length j
@@ -69,8 +73,8 @@ cells-put : (s : Star) (k : ℕ) (x y : List ℕ) → small s ≡ true → k + l
 unfolding cells entryAt toAt all
 cells-put [] k x y b h g = refl
 cells-put (e ∷ s) k x y b h g =
-    let px : getD (sets (set x k (e .to)) (suc k) (map toOf s)) k 0 ≡ e .to = sets-below (set x k (e .to)) (map toOf s) (suc k) k (omega arith) ∙ getD-set-same x k (e .to) 0 (omega arith) in
-    let py : getD (sets (set y k (e .kind)) (suc k) (map kindOf s)) k 0 ≡ e .kind = sets-below (set y k (e .kind)) (map kindOf s) (suc k) k (omega arith) ∙ getD-set-same y k (e .kind) 0 (omega arith) in
+    let px : getD (sets (set x k (e .to)) (suc k) (map toOf s)) k 0 ≡ e .to = first-put x (map toOf s) k (e .to) (omega arith) in
+    let py : getD (sets (set y k (e .kind)) (suc k) (map kindOf s)) k 0 ≡ e .kind = first-put y (map kindOf s) k (e .kind) (omega arith) in
     let t : e .to < 256 = ltb-true (e .to) 256 (and-left (ltb (e .to) 256) (small s) b) in
     let r : e .to % 256 ≡ e .to = omega arith in
     let hx : suc k + length s ≤ length (set x k (e .to)) = simp length-set (omega arith) in
@@ -100,12 +104,14 @@ module _ (h : Stars) (m : ℕ) (s : Star) (j : Job) where
       (λ k l. ends-kept one (m + length s) k j (omega arith) ∙ getD-set-other (h .ends) (h .count) k (m + length s) 0 (λ e. omega arith)))
 
   -- the star just put
-  here : h .count < length (h .ends) → m + length s ≤ length (h .nbr) → m + length s ≤ length (h .kind) → startOf (h .ends) (length (h .nbr)) (h .count) ≡ m → small s ≡ true → heldStar (whole .ends) (whole .nbr) (whole .kind) (h .count) ≡ s
+  here : h .count < length (h .ends) → m + length s ≤ length (h .nbr) → m + length s ≤ length (h .kind) → startOf (h .ends) (length (h .nbr)) (h .count) ≡ m
+      → small s ≡ true → heldStar (whole .ends) (whole .nbr) (whole .kind) (h .count) ≡ s
   unfolding heldStar putStar
   here c l g e b =
       let d : m + length s - m ≡ length s = omega arith in
       rw (end-kept, the-end c l, start-kept, e, d)
-      (cells-same (length s) m (whole .nbr) (whole .kind) (one .nbr) (one .kind) (λ i z. nbr-kept one (m + length s) i j z) (λ i z. kind-kept one (m + length s) i j z)
+      (cells-same (length s) m (whole .nbr) (whole .kind) (one .nbr) (one .kind)
+      (λ i z. nbr-kept one (m + length s) i j z) (λ i z. kind-kept one (m + length s) i j z)
       ∙ cells-put s m (h .nbr) (h .kind) b l g)
 
 -- the arrays of one star more are as long
@@ -126,11 +132,14 @@ module _ (h : Stars) (m : ℕ) (s : Star) where
   unfolding putStar
   one-count = omega arith
 
-  next-start : h .count < length (h .ends) → m + length s ≤ length (h .nbr) → startOf (putStar h m s .ends) (length (putStar h m s .nbr)) (putStar h m s .count) ≡ m + length s
+  next-start : h .count < length (h .ends) → m + length s ≤ length (h .nbr)
+      → startOf (putStar h m s .ends) (length (putStar h m s .nbr)) (putStar h m s .count) ≡ m + length s
   unfolding startOf
   next-start c l = rw one-count (the-end h m s [] c l)
 
-back : (j : Job) (h : Stars) (m : ℕ) → startOf (h .ends) (length (h .nbr)) (h .count) ≡ m → h .count + length j ≤ length (h .ends) → m + pairsIn j ≤ length (h .nbr) → m + pairsIn j ≤ length (h .kind) → all small j ≡ true → starsIn (length j) (h .count) (putAll h m j .ends) (putAll h m j .nbr) (putAll h m j .kind) ≡ j
+back : (j : Job) (h : Stars) (m : ℕ) → startOf (h .ends) (length (h .nbr)) (h .count) ≡ m → h .count + length j ≤ length (h .ends)
+    → m + pairsIn j ≤ length (h .nbr) → m + pairsIn j ≤ length (h .kind) → all small j ≡ true
+    → starsIn (length j) (h .count) (putAll h m j .ends) (putAll h m j .nbr) (putAll h m j .kind) ≡ j
 unfolding putAll starsIn pairsIn sum all
 back [] h m e c l g b = refl
 back (s ∷ j) h m e c l g b =
@@ -142,7 +151,8 @@ back (s ∷ j) h m e c l g b =
     back j (putStar h m s) (m + length s) (next-start h m s c′ l′) (omega (arith, one-count h m s, one-ends h m s)) (omega (arith, one-nbr h m s))
     (omega (arith, one-kind h m s)) (and-right (small s) (all small j) b) in
     let all = putAll (putStar h m s) (m + length s) j in
-    let tl′ : starsIn (length j) (suc (h .count)) (all .ends) (all .nbr) (all .kind) ≡ j = subst (λ (i : ℕ). starsIn (length j) i (all .ends) (all .nbr) (all .kind) ≡ j) (one-count h m s) tl in
+    let tl′ : starsIn (length j) (suc (h .count)) (all .ends) (all .nbr) (all .kind) ≡ j =
+    subst (λ (i : ℕ). starsIn (length j) i (all .ends) (all .nbr) (all .kind) ≡ j) (one-count h m s) tl in
     cc
 
 empty-count : noStars .count ≡ 0
@@ -154,13 +164,18 @@ pub given-back : (j : Job) → length j ≤ 60 → pairsIn j ≤ 360 → all sma
 unfolding jobOf heldOf noStars startOf
 given-back j n p b =
     let z : putAll noStars 0 j .count ≡ length j = all-count noStars 0 j ∙ omega arith in
-    rw z (back j noStars 0 refl (omega (arith, length-replicate {A = ℕ} 60 0)) (omega (arith, length-replicate {A = ℕ} 360 0)) (omega (arith, length-replicate {A = ℕ} 360 0)) b)
+    let e = length-replicate {A = ℕ} 60 0 in
+    let l = length-replicate {A = ℕ} 360 0 in
+    rw z (back j noStars 0 refl (omega arith) (omega arith) (omega arith) b)
 
 -- an entry that passes test 4 names a byte
 entry-small : (n u : ℕ) (e : Entry) → n ≤ 60 → entryOk n u e ≡ true → ltb (e .to) 256 ≡ true
 unfolding entryOk
 entry-small n u e h b =
-    let a = and-left (leb (e .to) (n + 3)) (not (eqb (e .to) u)) (and-left (leb (e .to) (n + 3) && not (eqb (e .to) u)) (leb (e .kind) 3) (and-left (leb (e .to) (n + 3) && not (eqb (e .to) u) && leb (e .kind) 3) (leb 4 (e .to) || eqb (e .kind) (frameKind (e .to))) b)) in
+    let near : Bool = leb (e .to) (n + 3) in
+    let other : Bool = not (eqb (e .to) u) in
+    let low : Bool = leb (e .kind) 3 in
+    let a = and-left near other (and-left (near && other) low (and-left (near && other && low) (leb 4 (e .to) || eqb (e .kind) (frameKind (e .to))) b)) in
     lt-ltb (e .to) 256 (omega (arith, leb-true (e .to) (n + 3) a))
 
 star-small : (n u : ℕ) (s : Star) → n ≤ 60 → all (entryOk n u) s ≡ true → small s ≡ true

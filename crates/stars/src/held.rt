@@ -3,7 +3,7 @@ ghost use mathlib.Core.Path.{_≡_};
 ghost use mathlib.Core.Bool.{_&&_};
 ghost use Prim.Native.Nat.{_+_, _-_, _≤_, _<_};
 ghost use lib.Dec.{eqb};
-ghost use lib.ListN.{length, getD};
+ghost use lib.ListN.{getD};
 ghost use Rattle.floor.specs.Jobs.{starOf, lists, test6};
 ghost use Rattle.stars.specs.Held.{toAt, entryAt, cells, endOf, startOf, heldStar, starsIn, jobOf, answers, starAnswers};
 use crate::Stars;

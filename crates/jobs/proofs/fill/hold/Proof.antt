@@ -1,8 +1,6 @@
-use Prim.Native.Nat.{ℕ, _+_, _-_, _≤_, _<_}
-use mathlib.Core.Path.{_≡_, refl}
-use native.Mathlib.Nat.{sub-zero}
-use native.Mathlib.Omega.{arith}
-use lib.ListN.{length, drop}
+use Prim.Native.Nat.{_+_, _-_, _≤_}
+use mathlib.Core.Path.{_≡_}
+use lib.ListN.{drop}
 use Rattle.floor.specs.Jobs.{pairsIn}
 use Rattle.stars.specs.Held.{putAll, heldOf}
 use Rattle.jobs.specs.Shapes.{starsAt}
@@ -10,13 +8,6 @@ use Rattle.jobs.proofs.Filling.{hold-first, room-here, room-behind, hol
 use borrow.Author.Needs.{needs}
 use Rattle.jobs.proofs.fill.hold.Statement.{statement}
 use Rattle.jobs.proofs.fill.hold.Tie as tie
-use Rattle.jobs.proofs.fill.hold.Reads as reads
-use Rattle.jobs.proofs.fill.hold.Lts as lts
-use Rattle.fields.proofs.after_at.Reads as after-at-reads
-use Rattle.fields.proofs.value_at.Reads as value-at-reads
-use Rattle.fields.proofs.wide.Reads as wide-reads
-use Rattle.jobs.proofs.fill.none_held.Reads as none-held-reads
-use Rattle.jobs.proofs.fill.put_star.Reads as put-star-reads
 
 abbrev Inv-loop : tie.InvT-loop
 Inv-loop job from n count held₀ m₀ at₀ i₀ held m at i =
@@ -26,48 +17,37 @@ Inv-loop job from n count held₀ m₀ at₀ i₀ held m at i =
 abbrev μ-loop : tie.MeasureT-loop
 μ-loop job from n count held₀ m₀ at₀ i₀ held m at i = count - i
 
--- src/fill.rt:54:9
 wide-requires : tie.Need-wide-requires Inv-loop μ-loop
 wide-requires c κs = search needs
 
--- src/fill.rt:55:9
 none-held-requires : tie.Need-none-held-requires Inv-loop μ-loop
 none-held-requires c κs = search needs
 
--- src/fill.rt:59:5
 loop-holds : tie.Need-loop-holds Inv-loop μ-loop
 loop-holds c = let a = c .before .before .before in
     hold-first (a .args .job .now) _ _ (a .args .from) _ (c .none-held .ensures) (c .before .wide .ensures .0) (a .pre .1)
 
--- src/fill.rt:60:13
 value-at-requires : tie.Need-value-at-requires Inv-loop μ-loop
 value-at-requires c κs = search needs
 
--- src/fill.rt:61:13
 put-star-requires : tie.Need-put-star-requires Inv-loop μ-loop
 put-star-requires c κs = (search needs, search (room-here, needs))
 
--- src/fill.rt:63:9
 add-m : tie.Need-add-m Inv-loop μ-loop
 add-m c = search needs
 
--- src/fill.rt:64:9
 after-at-requires : tie.Need-after-at-requires Inv-loop μ-loop
 after-at-requires c κs = search needs
 
--- src/fill.rt:65:9
 add-i : tie.Need-add-i Inv-loop μ-loop
 add-i c = search needs
 
--- src/fill.rt:59:5
 loop-less : tie.Need-loop-less Inv-loop μ-loop
 loop-less c = search needs
 
--- src/fill.rt:59:5
 loop-again : tie.Need-loop-again Inv-loop μ-loop
 loop-again c = (search (count-put, needs), search (room-behind, needs), search (hold-next, needs))
 
--- src/fill.rt:50:1
 returns : tie.Need-returns Inv-loop μ-loop
 returns c = search (hold-done, needs)
 

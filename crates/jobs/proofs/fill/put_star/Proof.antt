@@ -1,9 +1,8 @@
-use Prim.Native.Nat.{ℕ, _+_, _-_, _*_, _≤_, _<_, _/_}
+use Prim.Native.Nat.{_+_, _-_, _*_, _≤_}
 use mathlib.Core.Path.{_≡_, refl}
 use mathlib.Core.List.{map}
-use lib.ListN.{length, drop}
+use lib.ListN.{drop}
 use lib.Seq.{sets}
-use native.Mathlib.Omega.{arith}
 use native.Mathlib.Nat.{add-zero}
 use Rattle.floor.specs.Jobs.{entries}
 use Rattle.stars.specs.Held.{toOf, kindOf}
@@ -11,10 +10,6 @@ use Rattle.jobs.proofs.Filling.{fill-more, fill-done, star-put}
 use borrow.Author.Needs.{needs}
 use Rattle.jobs.proofs.fill.put_star.Statement.{statement}
 use Rattle.jobs.proofs.fill.put_star.Tie as tie
-use Rattle.jobs.proofs.fill.put_star.Reads as reads
-use Rattle.jobs.proofs.fill.put_star.Lts as lts
-use Rattle.fields.proofs.wide.Reads as wide-reads
-use Rattle.jobs.proofs.fill.neighbour.Reads as neighbour-reads
 
 abbrev Inv-loop : tie.InvT-loop
 Inv-loop m star n last k more₀ i₀ more i =
@@ -24,91 +19,69 @@ Inv-loop m star n last k more₀ i₀ more i =
 abbrev μ-loop : tie.MeasureT-loop
 μ-loop m star n last k more₀ i₀ more i = k - i
 
--- src/fill.rt:35:9
 wide-requires : tie.Need-wide-requires Inv-loop μ-loop
 wide-requires c κs = search needs
 
--- src/fill.rt:39:5
 loop-holds : tie.Need-loop-holds Inv-loop μ-loop
 loop-holds c = (search needs, refl, rw add-zero, rw add-zero)
 
--- src/fill.rt:40:42
 mul-neighbour : tie.Need-mul-neighbour Inv-loop μ-loop
 mul-neighbour c = search needs
 
--- src/fill.rt:40:37
 shared-slice-read-neighbour : tie.Need-shared-slice-read-neighbour Inv-loop μ-loop
 shared-slice-read-neighbour c = search needs
 
--- src/fill.rt:40:27
 neighbour-requires : tie.Need-neighbour-requires Inv-loop μ-loop
 neighbour-requires c κs = search needs
 
--- src/fill.rt:40:18
 add-more : tie.Need-add-more Inv-loop μ-loop
 add-more c = search needs
 
--- src/fill.rt:40:9
 mul-more : tie.Need-mul-more Inv-loop μ-loop
 mul-more c = search needs
 
--- src/fill.rt:40:9
 element-write-more : tie.Need-element-write-more Inv-loop μ-loop
 element-write-more c = search needs
 
--- src/fill.rt:41:33
 mul-more-2 : tie.Need-mul-more-2 Inv-loop μ-loop
 mul-more-2 c = search needs
 
--- src/fill.rt:41:33
 add-more-2 : tie.Need-add-more-2 Inv-loop μ-loop
 add-more-2 c = search needs
 
--- src/fill.rt:41:28
 shared-slice-read-more : tie.Need-shared-slice-read-more Inv-loop μ-loop
 shared-slice-read-more c = search needs
 
--- src/fill.rt:41:19
 add-more-3 : tie.Need-add-more-3 Inv-loop μ-loop
 add-more-3 c = search needs
 
--- src/fill.rt:41:9
 element-write-more-2 : tie.Need-element-write-more-2 Inv-loop μ-loop
 element-write-more-2 c = search needs
 
--- src/fill.rt:42:9
 add-i : tie.Need-add-i Inv-loop μ-loop
 add-i c = search needs
 
--- src/fill.rt:39:5
 loop-less : tie.Need-loop-less Inv-loop μ-loop
 loop-less c = search needs
 
--- src/fill.rt:39:5
 loop-again : tie.Need-loop-again Inv-loop μ-loop
 loop-again c = (search needs, search needs, search (fill-more toOf, needs), search (fill-more kindOf, needs))
 
--- src/fill.rt:44:24
 add-more-4 : tie.Need-add-more-4 Inv-loop μ-loop
 add-more-4 c = search needs
 
--- src/fill.rt:44:23
 cast-more : tie.Need-cast-more Inv-loop μ-loop
 cast-more c = search needs
 
--- src/fill.rt:44:5
 mul-more-3 : tie.Need-mul-more-3 Inv-loop μ-loop
 mul-more-3 c = search needs
 
--- src/fill.rt:44:5
 element-write-more-3 : tie.Need-element-write-more-3 Inv-loop μ-loop
 element-write-more-3 c = search needs
 
--- src/fill.rt:45:18
 add-more-5 : tie.Need-add-more-5 Inv-loop μ-loop
 add-more-5 c = search needs
 
--- src/fill.rt:30:1
 returns : tie.Need-returns Inv-loop μ-loop
 returns c = search (star-put, fill-done toOf, fill-done kindOf, needs)
 

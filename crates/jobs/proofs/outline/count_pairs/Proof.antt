@@ -1,9 +1,9 @@
 use Rattle.jobs.proofs.Outlines.{pairs-fit}
-use Prim.Native.Nat.{ℕ, _+_, _-_, _≤_, _<_}
-use mathlib.Core.Path.{_≡_, refl}
+use Prim.Native.Nat.{_-_, _≤_}
+use mathlib.Core.Path.{_≡_}
 use native.Mathlib.Nat.{sub-zero}
 use native.Mathlib.Omega.{arith}
-use lib.ListN.{length, drop}
+use lib.ListN.{drop}
 use Rattle.floor.specs.Jobs.{readStars}
 use Rattle.jobs.specs.Shapes.{pairsPast}
 use Rattle.fields.proofs.Laws.{in-order, within}
@@ -13,7 +13,8 @@ use Rattle.jobs.proofs.outline.count_pairs.Statement.{statement}
 use Rattle.jobs.proofs.outline.count_pairs.Tie as tie
 
 abbrev Inv-loop : tie.InvT-loop
-Inv-loop job from n count at₀ pairs₀ i₀ at pairs i = (pairs ≤ at) × (pairsPast pairs (readStars (count - i) (drop at job)) ≡ pairsPast 0 (readStars n (drop «from» job)))
+Inv-loop job from n count at₀ pairs₀ i₀ at pairs i =
+    (pairs ≤ at) × (pairsPast pairs (readStars (count - i) (drop at job)) ≡ pairsPast 0 (readStars n (drop «from» job)))
 
 abbrev μ-loop : tie.MeasureT-loop
 μ-loop job from n count at₀ pairs₀ i₀ at pairs i = count - i

@@ -1,18 +1,12 @@
-use native.Mathlib.Nat.{sub-zero}
-use Prim.Native.Nat.{ℕ, _+_, _-_, _*_, _≤_, _<_}
-use mathlib.Core.Path.{_≡_, refl, sym, _∙_}
+use Prim.Native.Nat.{_+_, _-_, _*_, _≤_}
+use mathlib.Core.Path.{_≡_}
 use lib.ListN.{length}
-use native.Mathlib.Omega.{arith}
 use Rattle.floor.specs.Jobs.{writeStars, writeJob}
 use Rattle.stars.specs.Held.{starsIn, jobOf}
 use Rattle.jobs.proofs.Writing.{total-first, total-more, total-done}
 use borrow.Author.Needs.{needs}
 use Rattle.jobs.proofs.put.job_length.Statement.{statement}
 use Rattle.jobs.proofs.put.job_length.Tie as tie
-use Rattle.jobs.proofs.put.job_length.Reads as reads
-use Rattle.jobs.proofs.put.job_length.Lts as lts
-use Rattle.fields.proofs.wide.Reads as wide-reads
-use Rattle.jobs.proofs.put.star_length.Reads as star-length-reads
 
 abbrev Inv-loop : tie.InvT-loop
 Inv-loop stars count total₀ i₀ total i =
@@ -21,43 +15,33 @@ Inv-loop stars count total₀ i₀ total i =
 abbrev μ-loop : tie.MeasureT-loop
 μ-loop stars count total₀ i₀ total i = count - i
 
--- src/put.rt:74:9
 wide-requires : tie.Need-wide-requires Inv-loop μ-loop
 wide-requires c κs = search needs
 
--- src/put.rt:77:5
 loop-holds : tie.Need-loop-holds Inv-loop μ-loop
 loop-holds c = search (total-first, needs)
 
--- src/put.rt:78:26
 star-length-requires : tie.Need-star-length-requires Inv-loop μ-loop
 star-length-requires c κs = search needs
 
--- src/put.rt:78:22
 mul-total : tie.Need-mul-total Inv-loop μ-loop
 mul-total c = search needs
 
--- src/put.rt:78:18
 add-total : tie.Need-add-total Inv-loop μ-loop
 add-total c = search needs
 
--- src/put.rt:78:9
 add-total-2 : tie.Need-add-total-2 Inv-loop μ-loop
 add-total-2 c = search needs
 
--- src/put.rt:79:9
 add-i : tie.Need-add-i Inv-loop μ-loop
 add-i c = search needs
 
--- src/put.rt:77:5
 loop-less : tie.Need-loop-less Inv-loop μ-loop
 loop-less c = search needs
 
--- src/put.rt:77:5
 loop-again : tie.Need-loop-again Inv-loop μ-loop
 loop-again c = (search needs, search (total-more, needs))
 
--- src/put.rt:71:1
 returns : tie.Need-returns Inv-loop μ-loop
 returns c = search (total-done, needs)
 

@@ -1,5 +1,5 @@
 use native.Mathlib.Nat.{add-zero, sub-zero}
-use Prim.Native.Nat.{ℕ, _+_, _-_, _*_, _≤_, _<_}
+use Prim.Native.Nat.{_+_, _-_, _*_, _≤_}
 use mathlib.Core.Path.{_≡_, refl}
 use lib.ListN.{length, length-set}
 use lib.Seq.{sets}
@@ -10,10 +10,6 @@ use Rattle.jobs.proofs.Writing.{put-more, put-done}
 use borrow.Author.Needs.{needs}
 use Rattle.jobs.proofs.put.put_pairs.Statement.{statement}
 use Rattle.jobs.proofs.put.put_pairs.Tie as tie
-use Rattle.jobs.proofs.put.put_pairs.Reads as reads
-use Rattle.jobs.proofs.put.put_pairs.Lts as lts
-use Rattle.stars.proofs.held.kind_at.Reads as kind-at-reads
-use Rattle.stars.proofs.held.to_at.Reads as to-at-reads
 
 abbrev Inv-loop : tie.InvT-loop
 Inv-loop out₀ at nbr kind from m i₀ out i =
@@ -23,67 +19,51 @@ Inv-loop out₀ at nbr kind from m i₀ out i =
 abbrev μ-loop : tie.MeasureT-loop
 μ-loop out₀ at nbr kind from m i₀ out i = m - i
 
--- src/put.rt:32:5
 loop-holds : tie.Need-loop-holds Inv-loop μ-loop
 loop-holds c = (search needs, refl, rw (add-zero, add-zero, sub-zero))
 
--- src/put.rt:33:22
 mul-j : tie.Need-mul-j Inv-loop μ-loop
 mul-j c = search needs
 
--- src/put.rt:33:17
 add-j : tie.Need-add-j Inv-loop μ-loop
 add-j c = search needs
 
--- src/put.rt:34:42
 add-to-at : tie.Need-add-to-at Inv-loop μ-loop
 add-to-at c = search needs
 
--- src/put.rt:34:13
 to-at-requires : tie.Need-to-at-requires Inv-loop μ-loop
 to-at-requires c κs = search needs
 
--- src/put.rt:35:18
 cast-out : tie.Need-cast-out Inv-loop μ-loop
 cast-out c = search needs
 
--- src/put.rt:35:9
 slice-write-out : tie.Need-slice-write-out Inv-loop μ-loop
 slice-write-out c = search needs
 
--- src/put.rt:36:49
 add-kind-at : tie.Need-add-kind-at Inv-loop μ-loop
 add-kind-at c = search needs
 
--- src/put.rt:36:22
 kind-at-requires : tie.Need-kind-at-requires Inv-loop μ-loop
 kind-at-requires c κs = search needs
 
--- src/put.rt:36:13
 add-out : tie.Need-add-out Inv-loop μ-loop
 add-out c = search needs
 
--- src/put.rt:36:9
 slice-write-out-2 : tie.Need-slice-write-out-2 Inv-loop μ-loop
 slice-write-out-2 c = simp length-set (omega arith)
 
--- src/put.rt:37:9
 add-i : tie.Need-add-i Inv-loop μ-loop
 add-i c = search needs
 
--- src/put.rt:32:5
 loop-less : tie.Need-loop-less Inv-loop μ-loop
 loop-less c = search needs
 
--- src/put.rt:32:5
 loop-again : tie.Need-loop-again Inv-loop μ-loop
 loop-again c = (search needs, simp length-set (omega arith), search (put-more, needs))
 
--- src/put.rt:27:1
 same-length : tie.Need-same-length Inv-loop μ-loop
 same-length c = search needs
 
--- src/put.rt:27:1
 returns : tie.Need-returns Inv-loop μ-loop
 returns c = search (put-done, needs)
 

@@ -1,19 +1,13 @@
-use native.Mathlib.Nat.{sub-zero}
-use Prim.Native.Nat.{ℕ, _+_, _-_, _*_, _≤_, _<_}
-use mathlib.Core.Path.{_≡_, refl, sym, _∙_}
-use lib.ListN.{length, length-set}
+use Prim.Native.Nat.{_+_, _-_, _≤_}
+use mathlib.Core.Path.{_≡_}
+use lib.ListN.{length}
 use lib.Seq.{sets}
-use native.Mathlib.Omega.{arith}
 use Rattle.floor.specs.Jobs.{writeStars}
 use Rattle.stars.specs.Held.{starsIn, jobOf}
 use Rattle.jobs.proofs.Writing.{put-first, room-field, room-later, stars-more, stars-done}
 use borrow.Author.Needs.{needs}
 use Rattle.jobs.proofs.put.put_stars.Statement.{statement}
 use Rattle.jobs.proofs.put.put_stars.Tie as tie
-use Rattle.jobs.proofs.put.put_stars.Reads as reads
-use Rattle.jobs.proofs.put.put_stars.Lts as lts
-use Rattle.fields.proofs.wide.Reads as wide-reads
-use Rattle.jobs.proofs.put.put_field.Reads as put-field-reads
 
 abbrev Inv-loop : tie.InvT-loop
 Inv-loop out₀ from stars count at₀ i₀ out at i =
@@ -23,35 +17,42 @@ Inv-loop out₀ from stars count at₀ i₀ out at i =
 abbrev μ-loop : tie.MeasureT-loop
 μ-loop out₀ from stars count at₀ i₀ out at i = count - i
 
--- src/put.rt:61:9
 wide-requires : tie.Need-wide-requires Inv-loop μ-loop
 wide-requires c κs = search needs
 
--- src/put.rt:64:5
 loop-holds : tie.Need-loop-holds Inv-loop μ-loop
 loop-holds c = let a = c .before .before in put-first (a .args .t2) (a .args .out .now) _ (a .args .from) (c .wide .ensures .0) (a .pre)
 
--- src/put.rt:65:9
 put-field-requires : tie.Need-put-field-requires Inv-loop μ-loop
-put-field-requires c κs = (search needs, (let a = c .before .before .before .before .before .before .before .before .before .before .before .before .args .t2 in let l = c .before .before .before .before .before .before .before .before .before in room-field (a .ends) (a .nbr) (a .kind) (c .before .before .before .before .before .before .before .before .before .before .wide .result) (l .loop .i) (c .before .before .before .before .before .before .before .before .loop-test .taken) (l .loop .at) (length (c .before .before .before .before .before .before .before .before .before .before .before .before .args .out .now)) _ (l .loop .inv .0) (l .loop .inv .1)))
+put-field-requires c κs = let turn = c .before .before .before .before .before .before .before .before in
+    let top = turn .before in
+    let start = top .before .before .before in
+    let stars = start .args .t2 in (
+      search needs,
+      room-field (stars .ends) (stars .nbr) (stars .kind) (top .before .wide .result) (top .loop .i) (turn .loop-test .taken)
+          (top .loop .at) (length (start .args .out .now)) _ (top .loop .inv .0) (top .loop .inv .1),
+    )
 
--- src/put.rt:66:9
 add-i : tie.Need-add-i Inv-loop μ-loop
 add-i c = search needs
 
--- src/put.rt:64:5
 loop-less : tie.Need-loop-less Inv-loop μ-loop
 loop-less c = search needs
 
--- src/put.rt:64:5
 loop-again : tie.Need-loop-again Inv-loop μ-loop
-loop-again c = (search needs, (let a = c .before .before .before .before .before .before .before .before .before .before .before .before .before .before .before .args .t2 in let l = c .before .before .before .before .before .before .before .before .before .before .before .before in room-later (a .ends) (a .nbr) (a .kind) (c .before .before .before .before .before .before .before .before .before .before .before .before .before .wide .result) (l .loop .i) (c .before .before .before .before .before .before .before .before .before .before .before .loop-test .taken) (l .loop .at) _ _ (c .before .before .put-field .ensures .1) (l .loop .inv .1)), search (stars-more, needs))
+loop-again c = let field = c .before .before in
+    let turn = field .before .before .before .before .before .before .before .before .before in
+    let top = turn .before in
+    let stars = top .before .before .before .args .t2 in (
+      search needs,
+      room-later (stars .ends) (stars .nbr) (stars .kind) (top .before .wide .result) (top .loop .i) (turn .loop-test .taken)
+          (top .loop .at) _ _ (field .put-field .ensures .1) (top .loop .inv .1),
+      search (stars-more, needs),
+    )
 
--- src/put.rt:57:1
 same-length : tie.Need-same-length Inv-loop μ-loop
 same-length c = search needs
 
--- src/put.rt:57:1
 returns : tie.Need-returns Inv-loop μ-loop
 returns c = search (stars-done, needs)
 

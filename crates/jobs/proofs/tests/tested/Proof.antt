@@ -2,63 +2,43 @@ use Rattle.jobs.proofs.Testing.{tells-3, tells-4, tells-5, tells-6, tel
 use borrow.Author.Needs.{needs}
 use Rattle.jobs.proofs.tests.tested.Statement.{statement}
 use Rattle.jobs.proofs.tests.tested.Tie as tie
-use Rattle.jobs.proofs.tests.tested.Reads as reads
-use Rattle.jobs.proofs.tests.tested.Lts as lts
-use Rattle.jobs.proofs.fill.hold.Reads as hold-reads
-use Rattle.jobs.proofs.tests.refused.Reads as refused-reads
-use Rattle.jobs.proofs.walk.entries_pass.Reads as entries-pass-reads
-use Rattle.jobs.proofs.walk.stars_pass.Reads as stars-pass-reads
-use Rattle.stars.proofs.held.answered.Reads as answered-reads
 
--- src/tests.rt:31:9
 refused-requires : tie.Need-refused-requires
 refused-requires c κs = search needs
 
--- src/tests.rt:31:9
 returns : tie.Need-returns
 returns c = search (tells-3, needs)
 
--- src/tests.rt:33:9
 entries-pass-requires : tie.Need-entries-pass-requires
 entries-pass-requires c κs = search needs
 
--- src/tests.rt:34:9
 refused-requires-2 : tie.Need-refused-requires-2
 refused-requires-2 c κs = search needs
 
--- src/tests.rt:34:9
 returns-2 : tie.Need-returns-2
 returns-2 c = search (tells-4, needs)
 
--- src/tests.rt:36:9
 stars-pass-requires : tie.Need-stars-pass-requires
 stars-pass-requires c κs = search needs
 
--- src/tests.rt:37:9
 refused-requires-3 : tie.Need-refused-requires-3
 refused-requires-3 c κs = search needs
 
--- src/tests.rt:37:9
 returns-3 : tie.Need-returns-3
 returns-3 c = search (tells-5, needs)
 
--- src/tests.rt:39:9
 hold-requires : tie.Need-hold-requires
 hold-requires c κs = search needs
 
--- src/tests.rt:40:9
 answered-requires : tie.Need-answered-requires
 answered-requires c κs = search needs
 
--- src/tests.rt:41:9
 refused-requires-4 : tie.Need-refused-requires-4
 refused-requires-4 c κs = search needs
 
--- src/tests.rt:41:9
 returns-4 : tie.Need-returns-4
 returns-4 c = search (tells-6, needs)
 
--- src/tests.rt:23:1
 returns-5 : tie.Need-returns-5
 returns-5 c = search (tells-job, needs)
 

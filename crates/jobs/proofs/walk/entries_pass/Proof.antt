@@ -1,10 +1,7 @@
-use Prim.Native.Nat.{ℕ, _+_, _-_, _≤_, _<_}
-use mathlib.Core.Path.{_≡_, refl}
+use Prim.Native.Nat.{_+_, _-_}
+use mathlib.Core.Path.{_≡_}
 use native.Mathlib.Nat.{sub-zero}
-use lib.ListN.{length, drop}
-use Rattle.floor.specs.Lists.{all}
-use Rattle.floor.specs.Fields.{afterFields}
-use Rattle.floor.specs.Jobs.{starOk}
+use lib.ListN.{drop}
 use Rattle.stars.specs.Rooms.{allFrom}
 use Rattle.jobs.specs.Shapes.{starsAt, entriesOk}
 use Rattle.jobs.proofs.Walks.{entries-false, entries-next, entries-done}
@@ -13,7 +10,8 @@ use Rattle.jobs.proofs.walk.entries_pass.Statement.{statement}
 use Rattle.jobs.proofs.walk.entries_pass.Tie as tie
 
 abbrev Inv-loop : tie.InvT-loop
-Inv-loop job from n count at₀ i₀ at i = allFrom (entriesOk n) (4 + i) (starsAt (count - i) (drop at job)) ≡ allFrom (entriesOk n) 4 (starsAt n (drop «from» job))
+Inv-loop job from n count at₀ i₀ at i =
+    allFrom (entriesOk n) (4 + i) (starsAt (count - i) (drop at job)) ≡ allFrom (entriesOk n) 4 (starsAt n (drop «from» job))
 
 abbrev μ-loop : tie.MeasureT-loop
 μ-loop job from n count at₀ i₀ at i = count - i

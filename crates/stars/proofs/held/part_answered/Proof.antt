@@ -1,4 +1,4 @@
-use Prim.Native.Nat.{ℕ, _+_, _-_, _≤_, _<_}
+use Prim.Native.Nat.{_-_}
 use mathlib.Core.Path.{_≡_}
 use Rattle.stars.specs.Held.{cells, starsIn, starAnswers}
 use Rattle.stars.proofs.Holding.{part-false, part-next, part-done}

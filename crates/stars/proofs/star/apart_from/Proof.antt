@@ -1,10 +1,10 @@
 use native.Mathlib.Omega.{arith}
-use Prim.Native.Nat.{ℕ, _+_, _-_, _≤_, _<_}
+use Prim.Native.Nat.{_-_, _≤_}
 use mathlib.Core.Path.{_≡_}
 use lib.ListN.{length, drop}
-use Rattle.floor.specs.Lists.{all, any, pairwise, chained}
-use Rattle.floor.specs.Jobs.{entries, entryOk}
-use Rattle.stars.specs.Pairs.{pair, ofKind, rises, apart}
+use Rattle.floor.specs.Lists.{all}
+use Rattle.floor.specs.Jobs.{entries}
+use Rattle.stars.specs.Pairs.{pair, apart}
 use Rattle.stars.proofs.Entries.{apart-false, apart-next, all-done}
 use borrow.Author.Needs.{needs}
 use Rattle.stars.proofs.star.apart_from.Statement.{statement}
@@ -27,7 +27,9 @@ shared-slice-read-if1 : tie.Need-shared-slice-read-if1 Inv-loop μ-loop
 shared-slice-read-if1 c = search needs
 
 returns : tie.Need-returns Inv-loop μ-loop
-returns c = let a = c .before .before .before in apart-false (a .before .args .star .now) _ (a .loop .j) _ (a .before .args .kind) (c .if1 .taken) (omega arith) (a .loop .inv .1)
+returns c =
+    let a = c .before .before .before in
+    apart-false (a .before .args .star .now) _ (a .loop .j) _ (a .before .args .kind) (c .if1 .taken) (omega arith) (a .loop .inv .1)
 
 add-j : tie.Need-add-j Inv-loop μ-loop
 add-j c = search needs

@@ -1,9 +1,8 @@
-use Prim.Native.Nat.{ℕ, _+_, _-_, _≤_, _<_}
+use Prim.Native.Nat.{_-_, _≤_}
 use mathlib.Core.Path.{_≡_}
 use lib.ListN.{length, drop}
-use Rattle.floor.specs.Lists.{all, any, pairwise, chained}
+use Rattle.floor.specs.Lists.{all}
 use Rattle.floor.specs.Jobs.{entries, entryOk}
-use Rattle.stars.specs.Pairs.{pair, ofKind, rises, apart}
 use Rattle.stars.proofs.Entries.{all-false, all-next, all-done}
 use borrow.Author.Needs.{needs}
 use Rattle.stars.proofs.star.entries_ok.Statement.{statement}
