@@ -26,6 +26,6 @@ one-field s at (Whole t x y) (Whole u v w) p a q b =
     let end : y ≡ w = rest-length s y w (a .2) (b .2) d in
     cc
 
--- the promise of `value_at` allows one answer, and so do those of `after_at` and `put_head`: each is an equation
-pub one-list : (r t w : List ℕ) → r ≡ w → t ≡ w → r ≡ t
-one-list r t w p q = p ∙ sym q
+-- a promise that is an equation, as those of `value_at`, `after_at` and `put_head`, allows one answer
+pub one-answer : {A : Type 0} (r t w : A) → r ≡ w → t ≡ w → r ≡ t
+one-answer r t w p q = p ∙ sym q

@@ -7,6 +7,7 @@ use native.Mathlib.Omega.{arith}
 use Rattle.floor.specs.Jobs.{Job, Reading, fails, reads, readJob, rawStar, test3, test4, test5, test6}
 use Rattle.floor.specs.Plans.{past, drawn}
 use Rattle.floor.specs.Calls.{Reply, loadRead, load}
+use Rattle.fields.proofs.Corollaries.{one-answer}
 use Rattle.stars.specs.declared.Stars.{Stars}
 use Rattle.stars.specs.Held.{jobOf}
 use Rattle.jobs.specs.declared.Answer.{Answer}
@@ -37,7 +38,7 @@ one-reading x r t p q =
 
 -- THE PROMISE OF `raw_star` ALLOWS ONE ANSWER
 pub one-raw-star : (bs : List ℕ) (v : ℕ) (r t : List ℕ) → r ≡ rawStar bs v → t ≡ rawStar bs v → r ≡ t
-one-raw-star bs v r t p q = p ∙ sym q
+one-raw-star bs v r t p q = one-answer r t (rawStar bs v) p q
 
 same-reply : (a b : Written) (x : Reply) → replied a ≡ x → replied b ≡ x → a ≡ b
 unfolding replied

@@ -14,7 +14,7 @@ use Rattle.floor.specs.Calls.{refuse, writes}
 use Rattle.fields.specs.Found.{withHead}
 use Rattle.stars.specs.declared.Stars.{Stars}
 use Rattle.stars.specs.Held.{toAt, entryAt, cells, startOf, endOf, heldStar, starsIn, jobOf}
-use Rattle.stars.proofs.Holding.{length-stars}
+use Rattle.stars.proofs.Holding.{length-stars, held-more, held-done}
 use Rattle.jobs.specs.declared.Written.the-variants.{Wrote, TooShort}
 use Rattle.jobs.specs.Writes.{starField, replied, writing}
 
@@ -84,11 +84,8 @@ module _ (ends nbr kind : List ℕ) (i : ℕ) where
 -- the stars, field by field
 module _ (ends nbr kind : List ℕ) (n i : ℕ) (h : i < n) where
   next-field : writeStars (starsIn (n - i) i ends nbr kind) ≡ starField ends nbr kind i ++ writeStars (starsIn (n - (i + 1)) (i + 1) ends nbr kind)
-  unfolding starsIn writeStars starField
-  next-field =
-      let d : n - i ≡ suc (n - (i + 1)) = omega arith in
-      let s : i + 1 ≡ suc i = omega arith in
-      rw (d, s)
+  unfolding writeStars starField
+  next-field = rw (held-more ends nbr kind n i h)
 
   next-length : length (writeStars (starsIn (n - i) i ends nbr kind))
       ≡ length (starField ends nbr kind i) + length (writeStars (starsIn (n - (i + 1)) (i + 1) ends nbr kind))
@@ -112,10 +109,8 @@ module _ (ends nbr kind : List ℕ) (n i : ℕ) (h : i < n) where
 
 module _ (ends nbr kind : List ℕ) (n i : ℕ) (h : n ≤ i) where
   no-field : writeStars (starsIn (n - i) i ends nbr kind) ≡ []
-  unfolding starsIn writeStars
-  no-field =
-      let d : n - i ≡ 0 = omega arith in
-      rw d
+  unfolding writeStars
+  no-field = rw (held-done ends nbr kind n i h)
 
   pub stars-done : (o w : List ℕ) (at : ℕ) → sets o at (writeStars (starsIn (n - i) i ends nbr kind)) ≡ w → o ≡ w
   stars-done o w at inv = rw no-field at inv

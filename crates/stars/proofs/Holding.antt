@@ -2,7 +2,7 @@
 use Prim.Native.Nat.{ℕ, zero, suc, _+_, _-_, _%_, _<_, _≤_}
 use mathlib.Core.Path.{_≡_, refl, sym, _∙_, ap}
 use mathlib.Core.Bool.{Bool, true, false, not, _&&_}
-use mathlib.Core.List.{List, []}
+use mathlib.Core.List.{List, [], _∷_}
 use native.Mathlib.Omega.{arith}
 use borrow.Author.Tests.{le-leb, lt-leb, eq-eqb, ne-eqb, not-true, not-false}
 use lib.Dec.{eqb}
@@ -47,6 +47,36 @@ module _ (l : List ℕ) (most i : ℕ) where
   unfolding startOf
   start-later x n p = let e : i ≡ suc (i - 1) = omega arith in rw e p
 
+-- the next entry of a part, and those behind it
+module _ (nbr kind : List ℕ) (end k : ℕ) where
+  pub cells-more : k < end → cells (end - k) k nbr kind ≡ entryAt nbr kind k ∷ cells (end - (k + 1)) (k + 1) nbr kind
+  unfolding cells
+  cells-more h =
+      let d : end - k ≡ suc (end - (k + 1)) = omega arith in
+      let s : k + 1 ≡ suc k = omega arith in
+      rw (d, s)
+
+  pub cells-done : end ≤ k → cells (end - k) k nbr kind ≡ []
+  unfolding cells
+  cells-done h =
+      let d : end - k ≡ 0 = omega arith in
+      rw d
+
+-- the next star, and those behind it
+module _ (ends nbr kind : List ℕ) (n i : ℕ) where
+  pub held-more : i < n → starsIn (n - i) i ends nbr kind ≡ heldStar ends nbr kind i ∷ starsIn (n - (i + 1)) (i + 1) ends nbr kind
+  unfolding starsIn
+  held-more h =
+      let d : n - i ≡ suc (n - (i + 1)) = omega arith in
+      let s : i + 1 ≡ suc i = omega arith in
+      rw (d, s)
+
+  pub held-done : n ≤ i → starsIn (n - i) i ends nbr kind ≡ []
+  unfolding starsIn
+  held-done h =
+      let d : n - i ≡ 0 = omega arith in
+      rw d
+
 -- some entry of a part
 module _ (nbr kind : List ℕ) (v want : ℕ) where
   -- the test of one entry
@@ -61,24 +91,17 @@ module _ (nbr kind : List ℕ) (v want : ℕ) where
 
   module _ (w : Bool) (end k : ℕ) where
     pub lists-here : (b : Bool) → b ≡ listed k → b ≡ true → k < end → lists (cells (end - k) k nbr kind) v want ≡ w → true ≡ w
-    unfolding lists any cells entryAt
-    lists-here b e t h inv =
-        let d : end - k ≡ suc (end - (k + 1)) = omega arith in
-        rw (d, ← e, t) at inv
+    unfolding lists any entryAt
+    lists-here b e t h inv = rw (cells-more nbr kind end k h, ← e, t) at inv
 
     pub lists-next : (b : Bool) → b ≡ listed k → b ≡ false → k < end → lists (cells (end - k) k nbr kind) v want ≡ w
         → lists (cells (end - (k + 1)) (k + 1) nbr kind) v want ≡ w
-    unfolding lists any cells entryAt
-    lists-next b e t h inv =
-        let d : end - k ≡ suc (end - (k + 1)) = omega arith in
-        let s : k + 1 ≡ suc k = omega arith in
-        rw s (rw (d, ← e, t, s) at inv)
+    unfolding lists any entryAt
+    lists-next b e t h inv = rw (cells-more nbr kind end k h, ← e, t) at inv
 
     pub lists-done : end ≤ k → lists (cells (end - k) k nbr kind) v want ≡ w → false ≡ w
-    unfolding lists any cells
-    lists-done h inv =
-        let d : end - k ≡ 0 = omega arith in
-        rw d at inv
+    unfolding lists any
+    lists-done h inv = rw (cells-done nbr kind end k h) at inv
 
 pub star-in : (m i k : ℕ) (ends nbr kind : List ℕ) → k < m → getD (starsIn m i ends nbr kind) k [] ≡ heldStar ends nbr kind (i + k)
 unfolding starsIn
@@ -129,24 +152,17 @@ module _ (j : Job) (nbr kind : List ℕ) (u k v : ℕ) where
 -- the answers to the entries of a part
 module _ (j : Job) (nbr kind : List ℕ) (u end k : ℕ) (w : Bool) where
   pub part-false : (b : Bool) → b ≡ answers j u (entryAt nbr kind k) → not b ≡ true → k < end → starAnswers j u (cells (end - k) k nbr kind) ≡ w → false ≡ w
-  unfolding starAnswers all cells
-  part-false b e t h inv =
-      let d : end - k ≡ suc (end - (k + 1)) = omega arith in
-      rw (d, ← e, not-true b t) at inv
+  unfolding starAnswers all
+  part-false b e t h inv = rw (cells-more nbr kind end k h, ← e, not-true b t) at inv
 
   pub part-next : (b : Bool) → b ≡ answers j u (entryAt nbr kind k) → not b ≡ false → k < end → starAnswers j u (cells (end - k) k nbr kind) ≡ w
       → starAnswers j u (cells (end - (k + 1)) (k + 1) nbr kind) ≡ w
-  unfolding starAnswers all cells
-  part-next b e t h inv =
-      let d : end - k ≡ suc (end - (k + 1)) = omega arith in
-      let s : k + 1 ≡ suc k = omega arith in
-      rw s (rw (d, ← e, not-false b t, s) at inv)
+  unfolding starAnswers all
+  part-next b e t h inv = rw (cells-more nbr kind end k h, ← e, not-false b t) at inv
 
   pub part-done : end ≤ k → starAnswers j u (cells (end - k) k nbr kind) ≡ w → true ≡ w
-  unfolding starAnswers all cells
-  part-done h inv =
-      let d : end - k ≡ 0 = omega arith in
-      rw d at inv
+  unfolding starAnswers all
+  part-done h inv = rw (cells-done nbr kind end k h) at inv
 
 -- the answers to a whole star
 pub star-whole : (j : Job) (ends nbr kind : List ℕ) (u i x y : ℕ) (r : Bool) → x ≡ startOf ends (length nbr) i → y ≡ endOf ends (length nbr) i
@@ -158,25 +174,19 @@ star-whole j ends nbr kind u i x y r ex ey e = rw (← ex, ← ey) e
 module _ (p : ℕ → Star → Bool) (ends nbr kind : List ℕ) (n i : ℕ) (w : Bool) where
   pub stars-false : (b : Bool) → b ≡ p (4 + i) (heldStar ends nbr kind i) → not b ≡ true → i < n → allFrom p (4 + i) (starsIn (n - i) i ends nbr kind) ≡ w
       → false ≡ w
-  unfolding allFrom starsIn
-  stars-false b e t h inv =
-      let d : n - i ≡ suc (n - (i + 1)) = omega arith in
-      rw (d, ← e, not-true b t) at inv
+  unfolding allFrom
+  stars-false b e t h inv = rw (held-more ends nbr kind n i h, ← e, not-true b t) at inv
 
   pub stars-next : (b : Bool) → b ≡ p (4 + i) (heldStar ends nbr kind i) → not b ≡ false → i < n → allFrom p (4 + i) (starsIn (n - i) i ends nbr kind) ≡ w
       → allFrom p (4 + (i + 1)) (starsIn (n - (i + 1)) (i + 1) ends nbr kind) ≡ w
-  unfolding allFrom starsIn
+  unfolding allFrom
   stars-next b e t h inv =
-      let d : n - i ≡ suc (n - (i + 1)) = omega arith in
-      let s : i + 1 ≡ suc i = omega arith in
-      let f : 4 + suc i ≡ suc (4 + i) = omega arith in
-      rw (s, f) (rw (d, ← e, not-false b t, s) at inv)
+      let f : 4 + (i + 1) ≡ suc (4 + i) = omega arith in
+      rw f (rw (held-more ends nbr kind n i h, ← e, not-false b t) at inv)
 
   pub stars-done : n ≤ i → allFrom p (4 + i) (starsIn (n - i) i ends nbr kind) ≡ w → true ≡ w
-  unfolding allFrom starsIn
-  stars-done h inv =
-      let d : n - i ≡ 0 = omega arith in
-      rw d at inv
+  unfolding allFrom
+  stars-done h inv = rw (held-done ends nbr kind n i h) at inv
 
 pub test6-held : (h : Stars) (r : Bool) (n : ℕ) → n ≡ h .count
     → r ≡ allFrom (starAnswers (starsIn n 0 (h .ends) (h .nbr) (h .kind))) 4 (starsIn n 0 (h .ends) (h .nbr) (h .kind)) → r ≡ test6 (jobOf h)

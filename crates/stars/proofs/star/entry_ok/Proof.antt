@@ -1,3 +1,4 @@
+use native.Mathlib.Omega.{arith}
 use Rattle.stars.proofs.Entries.{entry-far, entry-self, entry-kind, entry-room, entry-side}
 use borrow.Author.Needs.{needs}
 use Rattle.stars.proofs.star.entry_ok.Statement.{statement}
@@ -19,7 +20,8 @@ returns-2 : tie.Need-returns-2
 returns-2 c = search (entry-self, needs)
 
 returns-3 : tie.Need-returns-3
-returns-3 c = search (entry-kind, needs)
+returns-3 c = let one = c .before .before in
+    entry-kind _ _ _ _ _ _ (one .before .wide2 .ensures .0) (one .before .before .wide .ensures .0) (one .if1 .left) (c .before .if2 .left) (omega arith)
 
 returns-4 : tie.Need-returns-4
 returns-4 c = search (entry-room, needs)
