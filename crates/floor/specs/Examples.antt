@@ -1,15 +1,15 @@
 -- THE EXAMPLES P1 TO P12, and some questions and writings, as one table under one claim. Assumes nothing.
-use Prim.Native.Nat.{ℕ}
+use Prim.Native.Nat.{ℕ, _+_, _-_}
 use mathlib.Core.Path.{_≡_, refl}
 use mathlib.Core.Bool.{Bool, true, false, cond, _&&_}
-use mathlib.Core.List.{List, [], _∷_, _++_}
+use mathlib.Core.List.{List, [], _∷_, _++_, map}
 use lib.Dec.{eqb}
 use lib.ListN.{replicate}
 use Rattle.floor.specs.Lists.{all, any, keep, pairwise, chained, sum, upFrom, isFirst, isLast}
 use Rattle.floor.specs.Fields.{readField, restOf, writeField}
-use Rattle.floor.specs.Jobs.{opposite, frameKind, rooms, isVertex, isRoom, starOf, names, lists, kindOf, listOf, pairsIn, test2, test3, entryOk}
-use Rattle.floor.specs.Jobs.{test4, starOk, test5, test6, entries, starThen, readStars, readRest, readRooms, readFirst, readJob, starBytes}
-use Rattle.floor.specs.Jobs.{writeStars, writeJob}
+use Rattle.floor.specs.Jobs.{Entry, Star, Job, opposite, frameKind, rooms, isVertex, isRoom, starOf, names, lists, kindOf, listOf, pairsIn, test2, test3, entryOk, test4}
+use Rattle.floor.specs.Jobs.{starOk, test5, test6, entries, starThen, readStars, readRest, readRooms, readFirst, readJob, starBytes, writeStars}
+use Rattle.floor.specs.Jobs.{writeJob}
 use Rattle.floor.specs.Walls.{entryRules, starRules, rulesFrom, raise, relax1, relax, meets, over, passes, numbersOf, jobNumbers}
 use Rattle.floor.specs.Plans.{Rect, rectOf, roomRect, planOf, inside, overlap, abut, apart, area, share, corner, nextSide, joined, sharesJoined}
 use Rattle.floor.specs.Plans.{follows, inOrder, drawable, past, test8, tested, planned, drawn, rectBytes, writeRects, writePlan}
@@ -67,20 +67,14 @@ p10 =
 floorP1 : List ℕ
 floorP1 =
     3 ∷ 3
-    ∷ 0 ∷ 1 ∷ 2 ∷ 2 ∷ 3
-    ∷ 1 ∷ 0 ∷ 0 ∷ 1 ∷ 3
-    ∷ 2 ∷ 1 ∷ 0 ∷ 2 ∷ 1
-    ∷ 3 ∷ 2 ∷ 0 ∷ 3 ∷ 3
+    ∷ 0 ∷ 1 ∷ 2 ∷ 2 ∷ 3 ∷ 1 ∷ 0 ∷ 0 ∷ 1 ∷ 3 ∷ 2 ∷ 1 ∷ 0 ∷ 2 ∷ 1 ∷ 3 ∷ 2 ∷ 0 ∷ 3 ∷ 3
     ∷ 4 ∷ 1 ∷ 1 ∷ 2 ∷ 2 ∷ []
 
 -- sheet 4 by 3; 5 is x 2..3
 floorP5 : List ℕ
 floorP5 =
     4 ∷ 3
-    ∷ 0 ∷ 1 ∷ 2 ∷ 3 ∷ 3
-    ∷ 1 ∷ 0 ∷ 0 ∷ 1 ∷ 3
-    ∷ 2 ∷ 1 ∷ 0 ∷ 3 ∷ 1
-    ∷ 3 ∷ 3 ∷ 0 ∷ 4 ∷ 3
+    ∷ 0 ∷ 1 ∷ 2 ∷ 3 ∷ 3 ∷ 1 ∷ 0 ∷ 0 ∷ 1 ∷ 3 ∷ 2 ∷ 1 ∷ 0 ∷ 3 ∷ 1 ∷ 3 ∷ 3 ∷ 0 ∷ 4 ∷ 3
     ∷ 4 ∷ 1 ∷ 1 ∷ 2 ∷ 2
     ∷ 5 ∷ 2 ∷ 1 ∷ 3 ∷ 2 ∷ []
 
@@ -88,10 +82,7 @@ floorP5 =
 floorF : List ℕ
 floorF =
     4 ∷ 5
-    ∷ 0 ∷ 1 ∷ 4 ∷ 3 ∷ 5
-    ∷ 1 ∷ 0 ∷ 0 ∷ 1 ∷ 5
-    ∷ 2 ∷ 1 ∷ 0 ∷ 3 ∷ 1
-    ∷ 3 ∷ 3 ∷ 0 ∷ 4 ∷ 5
+    ∷ 0 ∷ 1 ∷ 4 ∷ 3 ∷ 5 ∷ 1 ∷ 0 ∷ 0 ∷ 1 ∷ 5 ∷ 2 ∷ 1 ∷ 0 ∷ 3 ∷ 1 ∷ 3 ∷ 3 ∷ 0 ∷ 4 ∷ 5
     ∷ 4 ∷ 1 ∷ 3 ∷ 2 ∷ 4
     ∷ 5 ∷ 2 ∷ 2 ∷ 3 ∷ 4
     ∷ 6 ∷ 1 ∷ 1 ∷ 2 ∷ 3
@@ -101,10 +92,7 @@ floorF =
 turnedF : List ℕ
 turnedF =
     5 ∷ 4
-    ∷ 0 ∷ 1 ∷ 3 ∷ 4 ∷ 4
-    ∷ 1 ∷ 0 ∷ 0 ∷ 1 ∷ 4
-    ∷ 2 ∷ 1 ∷ 0 ∷ 4 ∷ 1
-    ∷ 3 ∷ 4 ∷ 0 ∷ 5 ∷ 4
+    ∷ 0 ∷ 1 ∷ 3 ∷ 4 ∷ 4 ∷ 1 ∷ 0 ∷ 0 ∷ 1 ∷ 4 ∷ 2 ∷ 1 ∷ 0 ∷ 4 ∷ 1 ∷ 3 ∷ 4 ∷ 0 ∷ 5 ∷ 4
     ∷ 4 ∷ 1 ∷ 2 ∷ 2 ∷ 3
     ∷ 5 ∷ 2 ∷ 2 ∷ 4 ∷ 3
     ∷ 6 ∷ 1 ∷ 1 ∷ 3 ∷ 2
@@ -114,11 +102,19 @@ turnedF =
 planP1 : List ℕ
 planP1 =
     3 ∷ 0 ∷ 2 ∷ 3 ∷ 3
-    ∷ 4 ∷ 0 ∷ 5 ∷ 0 ∷ 1 ∷ 2 ∷ 2 ∷ 3
-    ∷ 4 ∷ 0 ∷ 5 ∷ 1 ∷ 0 ∷ 0 ∷ 1 ∷ 3
-    ∷ 4 ∷ 0 ∷ 5 ∷ 2 ∷ 1 ∷ 0 ∷ 2 ∷ 1
-    ∷ 4 ∷ 0 ∷ 5 ∷ 3 ∷ 2 ∷ 0 ∷ 3 ∷ 3
+    ∷ 4 ∷ 0 ∷ 5 ∷ 0 ∷ 1 ∷ 2 ∷ 2 ∷ 3 ∷ 4 ∷ 0 ∷ 5 ∷ 1 ∷ 0 ∷ 0 ∷ 1 ∷ 3
+    ∷ 4 ∷ 0 ∷ 5 ∷ 2 ∷ 1 ∷ 0 ∷ 2 ∷ 1 ∷ 4 ∷ 0 ∷ 5 ∷ 3 ∷ 2 ∷ 0 ∷ 3 ∷ 3
     ∷ 4 ∷ 0 ∷ 5 ∷ 4 ∷ 1 ∷ 1 ∷ 2 ∷ 2 ∷ []
+
+-- the star of room v of n in a row: N above, to the left the room before or W, S below, to the right the room after or E
+unfoldable rowStar : ℕ → ℕ → Star
+rowStar n v =
+    record { to = 0; kind = 0 } ∷ record { to = cond (eqb v 4) 1 (v - 1); kind = 1 } ∷ record { to = 2; kind = 2 }
+    ∷ record { to = cond (eqb v (n + 3)) 3 (v + 1); kind = 3 } ∷ []
+
+-- n rooms in a row
+unfoldable row : ℕ → Job
+row n = map (rowStar n) (upFrom 4 n)
 
 -- the two lists are one
 unfoldable pub same : List ℕ → List ℕ → Bool
@@ -225,6 +221,9 @@ table =
     -- one of two too large
     record { before = loads p1 ∷ []; last = shares 4 5; shows = 13 ∷ [] }
     ∷
+    -- 24 rooms in a row: sheet 26 by 3, and the last of them ends at 25
+    record { before = loads (writeJob (row 24)) ∷ []; last = rectangle 27; shows = 27 ∷ 24 ∷ 1 ∷ 25 ∷ 2 ∷ [] }
+    ∷
     -- a buffer one byte too short
     record { before = loads p1 ∷ []; last = writesJob (replicate 14 9); shows = 14 ∷ [] }
     ∷
@@ -237,5 +236,10 @@ table =
 
 -- EVERY ROW HOLDS
 pub examples : all right table ≡ true
-unfolding p1 p5 p6 p7 jobF p10 floorP1 floorP5 floorF turnedF planP1 same numbers plan told right table all any keep pairwise chained sum upFrom isFirst isLast readField restOf writeField opposite frameKind rooms isVertex isRoom starOf names lists kindOf listOf pairsIn test2 test3 entryOk test4 starOk test5 test6 entries starThen readStars readRest readRooms readFirst readJob starBytes writeStars writeJob entryRules starRules rulesFrom raise relax1 relax meets over passes numbersOf jobNumbers rectOf roomRect planOf inside overlap abut apart area share corner nextSide joined sharesJoined follows inOrder drawable past test8 tested planned drawn rectBytes writeRects writePlan turnedKind withKind rekinded turned turnAt turnFrom inContact turn loadRead load refuse after asks writes sharing step run
+unfolding rowStar row p1 p5 p6 p7 jobF p10 floorP1 floorP5 floorF turnedF planP1 same numbers plan told right table all any keep pairwise chained sum upFrom isFirst
+    isLast readField restOf writeField opposite frameKind rooms isVertex isRoom starOf names lists kindOf listOf pairsIn test2 test3 entryOk test4 starOk
+    test5 test6 entries starThen readStars readRest readRooms readFirst readJob starBytes writeStars writeJob entryRules starRules rulesFrom raise relax1
+    relax meets over passes numbersOf jobNumbers rectOf roomRect planOf inside overlap abut apart area share corner nextSide joined sharesJoined follows
+    inOrder drawable past test8 tested planned drawn rectBytes writeRects writePlan turnedKind withKind rekinded turned turnAt turnFrom inContact turn
+    loadRead load refuse after asks writes sharing step run
 examples = refl

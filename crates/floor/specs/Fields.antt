@@ -4,6 +4,7 @@ use mathlib.Core.Bool.{cond}
 use mathlib.Core.List.{List, [], _∷_}
 use lib.ListN.{length, take, drop}
 use lib.Dec.{leb}
+pub mod Laws
 
 -- every number of the list is a byte
 abbrev pub Bytes : List ℕ → Type 0

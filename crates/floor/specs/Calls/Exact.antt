@@ -1,0 +1,241 @@
+-- Exactly which labellings are drawn and which jobs are loaded, by the text's numbers alone; and that every call answers. Assumes nothing.
+use Prim.Native.Nat.{ℕ, _≤_}
+use mathlib.Core.Path.{_≡_, refl, sym, ap, _∙_, fun-ext}
+use mathlib.Core.Logic.{_⊎_, inl, inr, _↔_}
+use mathlib.Core.Bool.{Bool, true, false, cond, _&&_, _||_}
+use mathlib.Core.Option.{Option, none, some}
+use mathlib.Core.List.{List, _∷_, _++_, List·Memᴰ}
+use native.Mathlib.Omega.{arith}
+use lib.Dec.{eqb}
+use lib.ListN.{length, getD}
+use borrow.Author.Tests.{le-leb}
+use Rattle.floor.specs.Lists.Laws.{and-both, Apart, apart-at}
+use Rattle.floor.specs.Fields.{Field, broken, field, readField}
+use Rattle.floor.specs.Jobs.{Star, Room, starOf, kindOf, Job, opposite, readStars, test2, test3, test4, test5, test6, Reading, fails, reads, readRest}
+use Rattle.floor.specs.Jobs.{readRooms, readFirst, readJob}
+use Rattle.floor.specs.Jobs.Stars.{entry, GoodStar, kindOf-mid, mem-names}
+use Rattle.floor.specs.Jobs.Facts.{room-is, Passes, passes-of, of-passes}
+use Rattle.floor.specs.Walls.{Numbers, Axis, upright, level, rules, at, jobNumbers}
+use Rattle.floor.specs.Walls.Walk.{unique, numbers-respects}
+use Rattle.floor.specs.Walls.Rules.{numbered, numbers-are}
+use Rattle.floor.specs.Plans.{Plan, planOf, drawable, Answer, refused, held, past, test8, tested, planned, drawn}
+use Rattle.floor.specs.Plans.Held.{past-true, Drawn, drawn-held, drawn-again}
+use Rattle.floor.specs.Turns.Swing.{named-front}
+use Rattle.floor.specs.Turns.Ends.{opposite-opposite}
+use Rattle.floor.specs.Turns.Restore.{Turnable, turnedBy, asked, turned-keeps}
+use Rattle.floor.specs.Turns.{inContact, turn, turnAt, turnFrom, turned}
+use Rattle.floor.specs.Calls.{loadRead, load}
+use Rattle.floor.specs.Calls.Sound.{Sound, sound-good, load-held}
+
+-- A LABELLING NUMBERED AND TESTED, by the text alone: numbers for both directions, the plan by them, tests 8 and 9
+pub record Numbered (j : Job) (p : Plan) : Type 0 where
+  pub xs : ℕ → ℕ
+  pub ys : ℕ → ℕ
+  pub are-upright : Numbers (rules upright j) xs
+  pub are-level : Numbers (rules level j) ys
+  pub is-plan : p ≡ planOf j xs ys
+  pub small : test8 p ≡ true
+  pub draws : drawable j p ≡ true
+
+-- the text's numbers are the computed ones
+computed : (a : Axis) (j : Job) → Passes j → (f : ℕ → ℕ) → Numbers (rules a j) f → (l : List ℕ) × (jobNumbers a j ≡ some l) × (f ≡ at l)
+computed a j ok f n =
+    let (l, e) = numbered a j ok f (numbers-respects (rules a j) f n) in
+    (l, e, fun-ext (λ s. unique (rules a j) f (at l) n (numbers-are a j ok l e) s))
+
+module _ (j : Job) (ok : Passes j) (p : Plan) where
+  pub drawn-numbered : Drawn j p → Numbered j p
+  drawn-numbered d = record {
+    xs = at (d .xs);
+    ys = at (d .ys);
+    are-upright = numbers-are upright j ok (d .xs) (d .is-upright);
+    are-level = numbers-are level j ok (d .ys) (d .is-level);
+    is-plan = d .is-plan;
+    small = d .small;
+    draws = d .draws;
+  }
+
+  pub numbered-drawn : Numbered j p → Drawn j p
+  numbered-drawn n =
+      let (f, ef, qf) = computed upright j ok (n .xs) (n .are-upright) in
+      let (g, eg, qg) = computed level j ok (n .ys) (n .are-level) in
+      record {
+        xs = f;
+        ys = g;
+        is-upright = ef;
+        is-level = eg;
+        is-plan = n .is-plan ∙ ap (λ x. planOf j x (n .ys)) qf ∙ ap (λ y. planOf j (at f) y) qg;
+        small = n .small;
+        draws = n .draws;
+      }
+
+-- A JOB THAT THE RULES ACCEPT: read past tests 1 and 2, past tests 3 to 6, numbered and tested
+pub record Accepted (bs : List ℕ) (j : Job) (p : Plan) : Type 0 where
+  pub reading : readJob bs ≡ reads j
+  pub pass3 : test3 j ≡ true
+  pub pass4 : test4 j ≡ true
+  pub pass5 : test5 j ≡ true
+  pub pass6 : test6 j ≡ true
+  pub is-numbered : Numbered j p
+
+-- LOADED EXACTLY WHEN THE RULES SAY SO
+pub accepted : (bs : List ℕ) (j : Job) (p : Plan) → (load bs ≡ held j p) ↔ Accepted bs j p
+unfolding load loadRead
+accepted bs j p = (forth, back)
+  where
+    forth : load bs ≡ held j p → Accepted bs j p
+    forth h =
+        let (r, s) = load-held bs j p h in
+        let (t4, t5, t6) = of-passes j (s .passes) in
+        record { reading = r; pass3 = s .pass3; pass4 = t4; pass5 = t5; pass6 = t6; is-numbered = drawn-numbered j (s .passes) p (s .is-drawn) }
+
+    back : Accepted bs j p → load bs ≡ held j p
+    back a =
+        ap loadRead (a .reading)
+        ∙ past-true (test3 j) 3 _ (a .pass3)
+        ∙ past-true (test4 j) 4 _ (a .pass4)
+        ∙ past-true (test5 j) 5 _ (a .pass5)
+        ∙ past-true (test6 j) 6 _ (a .pass6)
+        ∙ drawn-again j p (numbered-drawn j (passes-of j (a .pass4) (a .pass5) (a .pass6)) p (a .is-numbered))
+
+-- a plan, or one refusal whose number is among those of the call
+abbrev pub Answers : ℕ → ℕ → Answer → Type 0
+Answers least most (refused k) = (least ≤ k) × (k ≤ most)
+Answers least most (held j p) = Unit {0}
+
+wider : (a b c d : ℕ) (r : Answer) → a ≤ c → d ≤ b → Answers c d r → Answers a b r
+wider a b c d (refused k) h i n = (omega (arith, n .0), omega (arith, n .1))
+wider a b c d (held j p) h i n = tt
+
+past-answers : (a b : ℕ) (t : Bool) (k : ℕ) (next : Unit {0} → Answer) → a ≤ k → k ≤ b → Answers a b (next tt) → Answers a b (past t k next)
+unfolding past
+past-answers a b true k next h i n = n
+past-answers a b false k next h i n = (h, i)
+
+drawn-answers : (j : Job) → Answers 7 9 (drawn j)
+unfolding drawn
+drawn-answers j = go (jobNumbers upright j) (jobNumbers level j)
+  where
+    go : (a b : Option (List ℕ)) → Answers 7 9 (planned j a b)
+    go none none = unfold planned in (omega arith, omega arith)
+    go none (some g) = unfold planned in (omega arith, omega arith)
+    go (some f) none = unfold planned in (omega arith, omega arith)
+    go (some f) (some g) = unfold planned tested in past-answers 7 9 (test8 (planOf j (at f) (at g))) 8 _ (omega arith) (omega arith)
+        (past-answers 7 9 (drawable j (planOf j (at f) (at g))) 9 _ (omega arith) (omega arith) tt)
+
+-- what fails in reading fails by 1 or 2
+abbrev Fails : Reading → Type 0
+Fails (fails k) = (1 ≤ k) × (k ≤ 2)
+Fails (reads j) = Unit {0}
+
+read-answers : (f : Field) → Fails (readFirst f)
+unfolding readFirst
+read-answers broken = (omega arith, omega arith)
+read-answers (field t v rest) = go (eqb t 1 && eqb (length v) 1) (test2 (getD v 0 0)) (getD v 0 0)
+  where
+    rest-answers : (o : Option Job) → Fails (readRest o)
+    rest-answers none = unfold readRest in (omega arith, omega arith)
+    rest-answers (some j) = unfold readRest in tt
+
+    rooms-answers : (b : Bool) (n : ℕ) → Fails (readRooms b n rest)
+    rooms-answers true n = unfold readRooms in rest-answers (readStars n rest)
+    rooms-answers false n = unfold readRooms in (omega arith, omega arith)
+
+    go : (a b : Bool) (n : ℕ) → Fails (cond a (readRooms b n rest) (fails 1))
+    go true b n = rooms-answers b n
+    go false b n = (omega arith, omega arith)
+
+-- EVERY LOAD ANSWERS: a plan, or one of the refusals 1 to 9
+pub load-answers : (bs : List ℕ) → Answers 1 9 (load bs)
+unfolding load readJob
+load-answers bs = go (readFirst (readField bs)) (read-answers (readField bs))
+  where
+    go : (r : Reading) → Fails r → Answers 1 9 (loadRead r)
+    go (fails k) h = unfold loadRead in (omega arith, omega arith)
+    go (reads j) h = unfold loadRead in
+        past-answers 1 9 (test3 j) 3 _ (omega arith) (omega arith)
+        (past-answers 1 9 (test4 j) 4 _ (omega arith) (omega arith)
+        (past-answers 1 9 (test5 j) 5 _ (omega arith) (omega arith)
+        (past-answers 1 9 (test6 j) 6 _ (omega arith) (omega arith) (wider 1 9 7 9 (drawn j) (omega arith) (omega arith) (drawn-answers j)))))
+
+-- EVERY TURN of a held plan ANSWERS: a plan, or one of the refusals 7 to 12 (10 is given where no plan is held)
+pub turn-answers : (j : Job) (u v : ℕ) → Answers 7 12 (turn j u v)
+unfolding turn
+turn-answers j u v = past-answers 7 12 _ 11 _ (omega arith) (omega arith) (go _ u v _)
+  where
+    at-answers : (a b k : ℕ) → Answers 7 12 (turnAt j a b k)
+    at-answers a b k = unfold turnAt in past-answers 7 12 _ 12 _ (omega arith) (omega arith) (wider 7 12 7 9 (drawn (turned j a b k)) (omega arith)
+        (omega arith) (drawn-answers (turned j a b k)))
+
+    go : (c : Bool) (u v k : ℕ) → Answers 7 12 (turnFrom c j u v k)
+    go true u v k = unfold turnFrom in at-answers u v k
+    go false u v k = unfold turnFrom in at-answers v u (opposite k)
+
+-- A TURN THAT THE RULES ACCEPT: a contact that can be turned, and its turned labelling numbered and tested afresh
+pub record Turned (j : Job) (u v : ℕ) (i : Job) (q : Plan) : Type 0 where
+  pub contact : Turnable j u v
+  pub is-job : i ≡ turnedBy contact
+  pub is-numbered : Numbered i q
+
+-- in a star that names each once, an entry's kind is found
+kind-found : (s : Star) (v k : ℕ) → GoodStar s → List·Memᴰ (entry v k) s → kindOf s v ≡ k
+kind-found s v k g m = let c : Apart (entry v k) s = apart-at (entry v k) s m in go (c .front) (c .rest) (c .whole)
+  where
+    go : (P Q : Star) → s ≡ P ++ entry v k ∷ Q → kindOf s v ≡ k
+    go P Q e = rw e (kindOf-mid P v k Q (named-front P Q v k (rw e at g)))
+
+-- which of the two asks
+asks-up : (m : ℕ) → (m ≡ 0) ⊎ (m ≡ 3) → ((eqb m 0 || eqb m 3) ≡ true) × ((eqb (opposite m) 0 || eqb (opposite m) 3) ≡ false)
+unfolding opposite
+asks-up m (inl e) = rw e (refl, refl)
+asks-up m (inr e) = rw e (refl, refl)
+
+module _ (j : Job) (p : Plan) (s : Sound j p) where
+  ok : Passes j
+  ok = s .passes
+
+  -- a turn, asked from the lower or the left room, or from the other
+  turn-at : (a b m : ℕ) → Room j a → Room j b → (m ≡ 0) ⊎ (m ≡ 3) → List·Memᴰ (entry b m) (starOf j a)
+      → (turn j a b ≡ turnAt j a b m) × (turn j b a ≡ turnAt j a b m)
+  unfolding turn turnFrom inContact
+  turn-at a b m ra rb up i =
+      let (x, y) = asks-up m up in
+      let small : m ≤ 3 = ok .entries a ra (entry b m) i .small in
+      let back : List·Memᴰ (entry a (opposite m)) (starOf j b) = ok .opposed a ra (entry b m) i (rb .0) in
+      let ka : kindOf (starOf j a) b ≡ m = kind-found (starOf j a) b m (ok .good a ra) i in
+      let kb : kindOf (starOf j b) a ≡ opposite m = kind-found (starOf j b) a (opposite m) (ok .good b rb) back in (
+        past-true _ 11 _ (and-both _ _ (and-both _ _ (room-is j a ra) (room-is j b rb)) (mem-names (starOf j a) b m i)) ∙ rw (ka, x),
+        past-true _ 11 _ (and-both _ _ (and-both _ _ (room-is j b rb) (room-is j a ra)) (mem-names (starOf j b) a (opposite m) back))
+            ∙ rw (kb, y, opposite-opposite m small),
+      )
+
+  -- TURNED EXACTLY WHEN THE RULES SAY SO
+  pub turned-exactly : (u v : ℕ) (i : Job) (q : Plan) → (turn j u v ≡ held i q) ↔ Turned j u v i q
+  turned-exactly u v i q = (forth, back)
+    where
+      keeps : (t : Turnable j u v) → Passes (turnedBy t)
+      keeps t = turned-keeps j ok p (sound-good j p s) t .passes
+
+      back : Turned j u v i q → turn j u v ≡ held i q
+      back r = go (r .contact) (r .is-job)
+        where
+          go : (t : Turnable j u v) → i ≡ turnedBy t → turn j u v ≡ held i q
+          go t e = two (t .a) (t .b) (t .who) (turn-at (t .a) (t .b) (t .m) (t .room-a) (t .room-b) (t .above-or-right) (t .contact))
+            where
+              drawn-is : turnAt j (t .a) (t .b) (t .m) ≡ held i q
+              drawn-is = unfold turnAt in (
+                  past-true _ 12 _ (and-both _ _ (le-leb 2 _ (t .many-a)) (le-leb 2 _ (t .many-b)))
+                  ∙ ap drawn (sym e)
+                  ∙ drawn-again i q (numbered-drawn i (rw e (keeps t)) q (r .is-numbered))
+                  )
+
+              two : (a b : ℕ) → ((a ≡ u) × (b ≡ v)) ⊎ ((a ≡ v) × (b ≡ u))
+                  → (turn j a b ≡ turnAt j (t .a) (t .b) (t .m)) × (turn j b a ≡ turnAt j (t .a) (t .b) (t .m)) → turn j u v ≡ held i q
+              two a b (inl (x, y)) both = rw (← x, ← y) (both .0 ∙ drawn-is)
+              two a b (inr (x, y)) both = rw (← x, ← y) (both .1 ∙ drawn-is)
+
+      forth : turn j u v ≡ held i q → Turned j u v i q
+      forth h =
+          let (t, c) = asked j u v i q ok h in
+          let (e, d) = drawn-held (turnedBy t) i q c in
+          record { contact = t; is-job = e; is-numbered = rw e (drawn-numbered (turnedBy t) (keeps t) q d) }

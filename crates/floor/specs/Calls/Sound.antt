@@ -1,0 +1,118 @@
+-- What a board holds after any calls: a job past tests 2 to 6, drawn. And what one call does to the board and to the lent buffer. Assumes nothing.
+use Prim.Native.Nat.{ℕ, _<_}
+use mathlib.Core.Path.{_≡_, refl, sym, ap, _∙_, subst}
+use mathlib.Core.Bool.{Bool, true, false}
+use mathlib.Core.List.{List, [], _∷_}
+use lib.ListN.{length}
+use native.Mathlib.Omega.{arith}
+use borrow.Author.Tests.{leb-true}
+use Rattle.floor.specs.Lists.Laws.{and-parts}
+use Rattle.floor.specs.Jobs.{Job, test2, test3, test4, test5, test6, Reading, fails, reads, readJob, writeJob}
+use Rattle.floor.specs.Jobs.Facts.{Passes, passes-of, of-passes}
+use Rattle.floor.specs.Jobs.Written.{read-test2}
+use Rattle.floor.specs.Plans.{Plan, Answer, refused, held, writePlan}
+use Rattle.floor.specs.Plans.Held.{not-held, past-true, past-held, Drawn, drawn-held, drawn-again, held-good}
+use Rattle.floor.specs.Floor.{GoodPlan}
+use Rattle.floor.specs.Turns.{turn}
+use Rattle.floor.specs.Turns.Turned.{Kept}
+use Rattle.floor.specs.Turns.Restore.{turnedBy, asked, turned-keeps}
+use Rattle.floor.specs.Calls.{loadRead, load, Board, empty, holding, Call, loads, turns, rectangle, shares, writesJob, writesPlan, Reply, refuse, after}
+use Rattle.floor.specs.Calls.{asks, writes, step, run}
+
+-- WHAT IS HELD: a job past tests 2 to 6, and its own drawing
+pub record Sound (j : Job) (p : Plan) : Type 0 where
+  pub pass2 : test2 (length j) ≡ true
+  pub pass3 : test3 j ≡ true
+  pub passes : Passes j
+  pub is-drawn : Drawn j p
+
+-- a board that holds nothing, or something sound
+abbrev pub SoundBoard : Board → Type 0
+SoundBoard empty = Unit {0}
+SoundBoard (holding j p) = Sound j p
+
+module _ (j : Job) (p : Plan) (s : Sound j p) where
+  pub some-room : 0 < length j
+  unfolding test2
+  some-room = omega (arith, leb-true 1 (length j) (and-parts _ _ (s .pass2) .0))
+
+  pub sound-good : GoodPlan j p
+  sound-good = held-good j (s .passes) some-room p (s .is-drawn)
+
+-- A LOAD that holds read a job past tests 2 to 6, and drew it
+pub load-held : (bs : List ℕ) (j : Job) (p : Plan) → load bs ≡ held j p → (readJob bs ≡ reads j) × Sound j p
+unfolding load loadRead
+load-held bs j p h = go (readJob bs) refl h
+  where
+    go : (r : Reading) → readJob bs ≡ r → loadRead r ≡ held j p → (readJob bs ≡ reads j) × Sound j p
+    go (fails k) e h = not-held h
+    go (reads i) e h =
+        let (t3, h4) = past-held (test3 i) 3 _ h in
+        let (t4, h5) = past-held (test4 i) 4 _ h4 in
+        let (t5, h6) = past-held (test5 i) 5 _ h5 in
+        let (t6, h7) = past-held (test6 i) 6 _ h6 in
+        let (q, d) = drawn-held i j p h7 in
+        (e ∙ ap reads (sym q), rw q (record { pass2 = read-test2 bs i e; pass3 = t3; passes = passes-of i t4 t5 t6; is-drawn = d }))
+
+-- and such a job is loaded
+pub load-reads : (bs : List ℕ) (j : Job) (p : Plan) → readJob bs ≡ reads j → Sound j p → load bs ≡ held j p
+unfolding load loadRead
+load-reads bs j p r s =
+    let (t4, t5, t6) = of-passes j (s .passes) in
+    ap loadRead r
+    ∙ past-true (test3 j) 3 _ (s .pass3)
+    ∙ past-true (test4 j) 4 _ t4
+    ∙ past-true (test5 j) 5 _ t5
+    ∙ past-true (test6 j) 6 _ t6
+    ∙ drawn-again j p (s .is-drawn)
+
+-- A TURN that holds keeps what is held sound
+pub turn-held : (j : Job) (p : Plan) (u v : ℕ) (i : Job) (q : Plan) → Sound j p → turn j u v ≡ held i q → Sound i q
+unfolding test3
+turn-held j p u v i q s h =
+    let (t, d) = asked j u v i q (s .passes) h in
+    let w : Kept j (turnedBy t) = turned-keeps j (s .passes) p (sound-good j p s) t in
+    let (e, r) = drawn-held (turnedBy t) i q d in
+    rw e (record { pass2 = rw (w .rooms) (s .pass2); pass3 = rw (w .pairs) (s .pass3); passes = w .passes; is-drawn = r })
+
+-- ONE CALL leaves a sound board sound
+after-sound : (b : Board) (r : Answer) → SoundBoard b → ((j : Job) (p : Plan) → r ≡ held j p → Sound j p) → SoundBoard (after b r .board)
+unfolding after refuse
+after-sound b (refused k) s h = s
+after-sound b (held j p) s h = h j p refl
+
+asks-board : (b : Board) (t : Bool) (r : Reply) → asks b t r .board ≡ b
+unfolding asks refuse
+asks-board b true r = refl
+asks-board b false r = refl
+
+writes-board : (b : Board) (t : Bool) (bs buf : List ℕ) → writes b t bs buf .board ≡ b
+unfolding writes refuse
+writes-board b true bs buf = refl
+writes-board b false bs buf = refl
+
+pub step-sound : (b : Board) (c : Call) → SoundBoard b → SoundBoard (step b c .board)
+unfolding step refuse
+step-sound b (loads bs) s = load-sound b s
+  where
+    load-sound : (b : Board) → SoundBoard b → SoundBoard (after b (load bs) .board)
+    load-sound b s = after-sound b (load bs) s (λ j p e. load-held bs j p e .1)
+step-sound empty (turns u v) s = s
+step-sound empty (rectangle v) s = s
+step-sound empty (shares u v) s = s
+step-sound empty (writesJob buf) s = s
+step-sound empty (writesPlan buf) s = s
+step-sound (holding i q) (turns u v) s = after-sound (holding i q) (turn i u v) s (λ j p e. turn-held i q u v j p s e)
+step-sound (holding i q) (rectangle v) s = rw (asks-board (holding i q) _ _) s
+step-sound (holding i q) (shares u v) s = rw (asks-board (holding i q) _ _) s
+step-sound (holding i q) (writesJob buf) s = rw (writes-board (holding i q) _ (writeJob i) buf) s
+step-sound (holding i q) (writesPlan buf) s = rw (writes-board (holding i q) _ (writePlan q) buf) s
+
+-- ANY CALLS
+pub run-sound : (b : Board) (cs : List Call) → SoundBoard b → SoundBoard (run b cs)
+unfolding run
+run-sound b [] s = s
+run-sound b (c ∷ cs) s = run-sound (step b c .board) cs (step-sound b c s)
+
+pub any-calls-sound : (cs : List Call) (j : Job) (p : Plan) → run empty cs ≡ holding j p → Sound j p
+any-calls-sound cs j p e = subst SoundBoard e (run-sound empty cs tt)

@@ -1,0 +1,113 @@
+-- THE THREE DEMANDS of the customer, as theorems. Assumes nothing.
+use Prim.Native.Nat.{ℕ, _+_, _≤_, _<_}
+use mathlib.Core.Path.{_≡_}
+use mathlib.Core.Logic.{_⊎_, _↔_}
+use mathlib.Core.Bool.{true}
+use mathlib.Core.Option.{some}
+use mathlib.Core.List.{List}
+use lib.ListN.{length}
+use borrow.Author.Tests.{ne-eqb}
+use Rattle.floor.specs.Lists.Laws.{same-test}
+use Rattle.floor.specs.Fields.{Bytes}
+use Rattle.floor.specs.Jobs.{Job, Vertex, writeJob}
+use Rattle.floor.specs.Jobs.Facts.{Passes}
+use Rattle.floor.specs.Walls.{Circle, upright, level, rules, at, jobNumbers}
+use Rattle.floor.specs.Plans.{Plan, rectOf, share, planOf, joined, refused, held, test8, drawn}
+use Rattle.floor.specs.Plans.Held.{seven, nine, width-bound, height-bound}
+use Rattle.floor.specs.Floor.{Shares, Joined, Floor}
+use Rattle.floor.specs.Floor.Joins.{joined-of, of-joined}
+use Rattle.floor.specs.Floor.Draws.{shares-of, of-shares}
+use Rattle.floor.specs.Turns.{turn}
+use Rattle.floor.specs.Turns.Turned.{Kept}
+use Rattle.floor.specs.Turns.Restore.{Turnable, turnedBy, turned-keeps}
+use Rattle.floor.specs.Calls.{load, Board, empty, holding, Call, loads, turns, refusal, done, lent, sharing, step, run}
+use Rattle.floor.specs.Calls.Sound.{Sound, some-room, sound-good, any-calls-sound}
+use Rattle.floor.specs.Calls.Effects.{Left, refused-leaves, write-load, load-write, Restored, turn-turn}
+use Rattle.floor.specs.Calls.Exact.{Numbered, drawn-numbered, Accepted, accepted, Answers, load-answers, Turned, turned-exactly}
+
+-- DEMAND 1. Every job, however damaged or contradictory, gets an answer: a plan or one numbered refusal.
+pub every-job-answered : (bs : List ℕ) → Answers 1 9 (load bs)
+every-job-answered = load-answers
+
+-- A refusal leaves the held plan and the caller's buffers untouched.
+pub refusal-leaves : (b : Board) (c : Call) (k : ℕ) → step b c .reply ≡ refusal k → Left b (lent c) (step b c)
+refusal-leaves = refused-leaves
+
+-- DEMAND 2. A job is accepted exactly when the rules say so, and its rectangles carry exactly the longest-path wall numbers.
+pub accepted-exactly : (bs : List ℕ) (j : Job) (p : Plan) → (load bs ≡ held j p) ↔ Accepted bs j p
+accepted-exactly = accepted
+
+-- Walls run in a circle exactly if no whole numbers can be put on them that respect every "before".
+pub circle-exactly : (j : Job) → Passes j → (drawn j ≡ refused 7) ↔ (Circle (rules upright j) ⊎ Circle (rules level j))
+circle-exactly = seven
+
+-- A turn is accepted exactly when the written rules allow it; it then changes the kind of that one contact, and the plan is numbered afresh.
+pub turn-accepted-exactly : (cs : List Call) (j : Job) (p : Plan) → run empty cs ≡ holding j p
+    → (u v : ℕ) (i : Job) (q : Plan) → (turn j u v ≡ held i q) ↔ Turned j u v i q
+turn-accepted-exactly cs j p h = turned-exactly j p (any-calls-sound cs j p h)
+
+-- A job written out and read back is the same job, whatever board it is loaded into.
+pub written-and-read : (cs : List Call) (j : Job) (p : Plan) → run empty cs ≡ holding j p → (b : Board) → step b (loads (writeJob j)) .board ≡ holding j p
+written-and-read cs j p h b = write-load b j p (any-calls-sound cs j p h)
+
+-- An accepted job read and written is the same bytes.
+pub read-and-written : (bs : List ℕ) (j : Job) (p : Plan) → Bytes bs → load bs ≡ held j p → writeJob j ≡ bs
+read-and-written = load-write
+
+-- DEMAND 3. Start from an empty board and make any calls. Whenever a plan is held, it is a floor plan for the job now held: each cell in exactly one
+-- rectangle, no point in four, two share a wall exactly if joined, neighbours in the order held.
+pub any-calls-floor : (cs : List Call) (j : Job) (p : Plan) → run empty cs ≡ holding j p → Floor j p
+any-calls-floor cs j p h = sound-good j p (any-calls-sound cs j p h) .floor
+
+-- Its rectangles carry the wall numbers of that very job.
+pub any-calls-numbers : (cs : List Call) (j : Job) (p : Plan) → run empty cs ≡ holding j p → Numbered j p
+any-calls-numbers cs j p h = let s : Sound j p = any-calls-sound cs j p h in drawn-numbered j (s .passes) p (s .is-drawn)
+
+-- The sheet is never wider or higher than the number of rooms plus 2.
+pub any-calls-bound : (cs : List Call) (j : Job) (p : Plan) → run empty cs ≡ holding j p → (p .width ≤ length j + 2) × (p .height ≤ length j + 2)
+any-calls-bound cs j p h =
+    let s : Sound j p = any-calls-sound cs j p h in
+    let n : Numbered j p = drawn-numbered j (s .passes) p (s .is-drawn) in
+    rw (n .is-plan) (
+      width-bound j (s .passes) (n .xs) (n .ys) (n .are-upright) (n .are-level),
+      height-bound j (s .passes) (n .xs) (n .ys) (n .are-upright) (n .are-level),
+    )
+
+-- Asked whether two vertices share a wall, it says yes exactly if the job joins them or they are neighbouring sides of the frame.
+pub any-calls-share : (cs : List Call) (j : Job) (p : Plan) → run empty cs ≡ holding j p
+    → (u v : ℕ) → Vertex j u → Vertex j v → (u ≡ v → ⊥) → sharing p u v ≡ joined j u v
+unfolding sharing
+any-calls-share cs j p h u v hu hv ne = rw (ne-eqb u v ne) (same-test (share (rectOf p u) (rectOf p v)) (joined j u v) forth back)
+  where
+    same : Shares (rectOf p u) (rectOf p v) ↔ Joined j u v
+    same = any-calls-floor cs j p h .contacts u v hu hv ne
+
+    forth : share (rectOf p u) (rectOf p v) ≡ true → joined j u v ≡ true
+    forth e = of-joined j u v (same .0 (shares-of (rectOf p u) (rectOf p v) e))
+
+    back : joined j u v ≡ true → share (rectOf p u) (rectOf p v) ≡ true
+    back e = of-shares (rectOf p u) (rectOf p v) (same .1 (joined-of j u v e))
+
+-- A job that has passed every earlier test is refused as undrawable exactly when its numbered rectangles break one of these.
+pub undrawable-exactly : (j : Job) → Passes j → 0 < length j → (f g : List ℕ) → jobNumbers upright j ≡ some f → jobNumbers level j ≡ some g
+    → test8 (planOf j (at f) (at g)) ≡ true → (drawn j ≡ refused 9) ↔ (Floor j (planOf j (at f) (at g)) → ⊥)
+undrawable-exactly j ok h = nine j ok h
+
+-- A turned labelling passes tests 4 to 6, has as many rooms and pairs, and joins the same pairs;
+pub turned-labelling : (cs : List Call) (j : Job) (p : Plan) → run empty cs ≡ holding j p → (u v : ℕ) (t : Turnable j u v) → Kept j (turnedBy t)
+turned-labelling cs j p h u v t = let s : Sound j p = any-calls-sound cs j p h in turned-keeps j (s .passes) p (sound-good j p s) t
+
+-- so it too, numbered, is refused as undrawable exactly when its rectangles break one of these, read with its own contacts and its own order.
+pub turned-undrawable-exactly : (cs : List Call) (j : Job) (p : Plan) → run empty cs ≡ holding j p → (u v : ℕ) (t : Turnable j u v)
+    → (f g : List ℕ) → jobNumbers upright (turnedBy t) ≡ some f → jobNumbers level (turnedBy t) ≡ some g → test8 (planOf (turnedBy t) (at f) (at g)) ≡ true
+    → (drawn (turnedBy t) ≡ refused 9) ↔ (Floor (turnedBy t) (planOf (turnedBy t) (at f) (at g)) → ⊥)
+turned-undrawable-exactly cs j p h u v t =
+    let k : Kept j (turnedBy t) = turned-labelling cs j p h u v t in
+    nine (turnedBy t) (k .passes) (rw (k .rooms) (some-room j p (any-calls-sound cs j p h)))
+
+-- An accepted turn made again at once, with no other call that changes the plan between, is accepted and gives back the plan before it, whichever of the
+-- two numbers is named first.
+pub turned-again : (cs ds : List Call) (j : Job) (p : Plan) (u v : ℕ) (b : Board) → run empty cs ≡ holding j p
+    → step (holding j p) (turns u v) .reply ≡ done → b ≡ step (holding j p) (turns u v) .board → run b ds ≡ b
+    → Restored (holding j p) (step (run b ds) (turns u v)) × Restored (holding j p) (step (run b ds) (turns v u))
+turned-again cs ds j p u v b h e q r = rw (r, q) (turn-turn j p u v (any-calls-sound cs j p h) e)

@@ -1,0 +1,262 @@
+-- The drawing test item by item, as facts about the rectangles; and the way back. Assumes nothing.
+use mathlib.Core.Path.{_≡_, refl, sym, ap, _∙_}
+use mathlib.Core.Logic.{_⊎_, inl, inr}
+use mathlib.Core.Bool.{Bool, true, not, _&&_, _||_}
+use mathlib.Core.List.{[], _∷_, map}
+use Prim.Native.Nat.{ℕ, zero, suc, _+_, _-_, _*_, _≤_, _<_, max}
+use native.Mathlib.Omega.{arith}
+use native.Mathlib.Decide.{decLt}
+use lib.Dec.{leb, eqb}
+use borrow.Author.Tests.{leb-true, ltb-true, eqb-true, le-leb, lt-ltb, eq-eqb}
+use Rattle.floor.specs.Lists.{all, pairwise, sum}
+use Rattle.floor.specs.Lists.Laws.{and-parts, and-both, or-cases, or-left, or-right, not-of, not-and, implies, implied, all-mem, mem-all, mem-getD}
+use Rattle.floor.specs.Lists.Laws.{getD-mem, all-at, at-pairwise, pairwise-at}
+use Rattle.floor.specs.Jobs.{Entry, Star, Job, Vertex, Room, starOf}
+use Rattle.floor.specs.Jobs.Facts.{star-room, star-at}
+use Rattle.floor.specs.Plans.{Rect, Plan, nowhere, rectOf, inside, overlap, abut, apart, area, share, corner, joined, sharesJoined, follows, inOrder}
+use Rattle.floor.specs.Plans.{drawable}
+use Rattle.floor.specs.Floor.{Cell, Wall, Stands, Shares, Onward, Earlier, here, there, Joined, Complete, Inside}
+use Rattle.floor.specs.Floor.Joins.{joined-of, of-joined}
+use Rattle.floor.specs.Floor.Placed.{wall-at}
+
+-- the stretches from a to b and from c to d touch end to end
+abbrev pub Touch : ℕ → ℕ → ℕ → ℕ → Type 0
+Touch a b c d = (b ≡ c) ⊎ (d ≡ a)
+
+-- THE DRAWING TEST AS FACTS
+pub record Draws (j : Job) (p : Plan) : Type 0 where
+  pub inside : (v : ℕ) → Vertex j v → Inside p (rectOf p v)
+  pub apart : (u v : ℕ) → u < v → Vertex j v → (x y : ℕ) → Cell (rectOf p u) x y → Cell (rectOf p v) x y → ⊥
+  pub areas : sum (map area (p .rects)) ≡ p .width * p .height
+  pub shares : (u v : ℕ) → u < v → Vertex j v → Shares (rectOf p u) (rectOf p v) → Joined j u v
+  pub corners : (u v : ℕ) → u < v → Vertex j v → Touch (rectOf p u .x1) (rectOf p u .x2) (rectOf p v .x1) (rectOf p v .x2)
+      → Touch (rectOf p u .y1) (rectOf p u .y2) (rectOf p v .y1) (rectOf p v .y2) → ⊥
+  pub order : (u : ℕ) → Room j u → (d e : Entry) → Earlier d e (starOf j u) → d .kind ≡ e .kind → Onward (d .kind) (rectOf p (d .to)) (rectOf p (e .to))
+
+-- inside the sheet
+inside-of : (p : Plan) (r : Rect) → inside p r ≡ true → Inside p r
+unfolding inside
+inside-of p r h =
+    let (abc, d) = and-parts _ _ h in
+    let (ab, c) = and-parts _ _ abc in
+    let (a, b) = and-parts _ _ ab in
+    record {
+      wide = ltb-true (r .x1) (r .x2) a;
+      tall = ltb-true (r .y1) (r .y2) b;
+      in-width = leb-true (r .x2) (p .width) c;
+      in-height =
+          leb-true (r .y2) (p .height) d;
+    }
+
+of-inside : (p : Plan) (r : Rect) → Inside p r → inside p r ≡ true
+unfolding inside
+of-inside p r i =
+    and-both _ _ (and-both _ _ (and-both _ _ (lt-ltb (r .x1) (r .x2) (i .wide)) (lt-ltb (r .y1) (r .y2) (i .tall)))
+    (le-leb (r .x2) (p .width) (i .in-width))) (le-leb (r .y2) (p .height) (i .in-height))
+
+-- no cell in both
+apart-of : (r s : Rect) → apart r s ≡ true → (x y : ℕ) → Cell r x y → Cell s x y → ⊥
+unfolding apart overlap
+apart-of r s h x y c d = go (or-cases _ _ h)
+  where
+    go : (eqb (overlap (r .x1) (r .x2) (s .x1) (s .x2)) 0 ≡ true) ⊎ (eqb (overlap (r .y1) (r .y2) (s .y1) (s .y2)) 0 ≡ true) → ⊥
+    go (inl e) = omega (arith, eqb-true (overlap (r .x1) (r .x2) (s .x1) (s .x2)) 0 e, c .left, c .right, d .left, d .right)
+    go (inr e) = omega (arith, eqb-true (overlap (r .y1) (r .y2) (s .y1) (s .y2)) 0 e, c .lower, c .upper, d .lower, d .upper)
+
+of-apart : (r s : Rect) → ((x y : ℕ) → Cell r x y → Cell s x y → ⊥) → apart r s ≡ true
+unfolding apart overlap
+of-apart r s h = go (decLt 0 ox) (decLt 0 oy)
+  where
+    ox : ℕ
+    ox = overlap (r .x1) (r .x2) (s .x1) (s .x2)
+
+    oy : ℕ
+    oy = overlap (r .y1) (r .y2) (s .y1) (s .y2)
+
+    go : Dec (0 < ox) → Dec (0 < oy) → (eqb ox 0 || eqb oy 0) ≡ true
+    go (no a) b = or-left _ _ (eq-eqb ox 0 (omega arith))
+    go (yes a) (no b) = or-right (eqb ox 0) _ (eq-eqb oy 0 (omega arith))
+    go (yes a) (yes b) =
+        absurd (h (max (r .x1) (s .x1)) (max (r .y1) (s .y1))
+        (record {
+          left = omega arith;
+          right = omega arith;
+          lower = omega arith;
+          upper = omega arith;
+        }) (record { left = omega arith; right = omega arith; lower = omega arith; upper = omega arith }))
+
+-- end to end
+touch-of : (a b c d : ℕ) → abut a b c d ≡ true → Touch a b c d
+unfolding abut
+touch-of a b c d h = go (or-cases (eqb b c) (eqb d a) h)
+  where
+    go : (eqb b c ≡ true) ⊎ (eqb d a ≡ true) → Touch a b c d
+    go (inl e) = inl (eqb-true b c e)
+    go (inr e) = inr (eqb-true d a e)
+
+of-touch : (a b c d : ℕ) → Touch a b c d → abut a b c d ≡ true
+unfolding abut
+of-touch a b c d (inl e) = or-left (eqb b c) (eqb d a) (eq-eqb b c e)
+of-touch a b c d (inr e) = or-right (eqb b c) (eqb d a) (eq-eqb d a e)
+
+-- a shared stretch, along either line
+wall-of : (a from to b from′ to′ : ℕ) → a ≡ b → 1 ≤ overlap from to from′ to′ → Wall a from to b from′ to′
+unfolding overlap
+wall-of a from to b from′ to′ e l = wall-at a from to b from′ to′ e (omega arith) (omega arith) (omega arith) (omega arith)
+
+of-wall : {a from to b from′ to′ : ℕ} → Wall a from to b from′ to′ → leb 1 (overlap from to from′ to′) ≡ true
+unfolding overlap
+of-wall {a} {from} {to} {b} {from′} {to′} w = le-leb 1 (overlap from to from′ to′) (omega (arith, w .starts, w .ends, w .starts′, w .ends′))
+
+back-wall : {a from to b from′ to′ : ℕ} → Wall a from to b from′ to′ → leb 1 (overlap from′ to′ from to) ≡ true
+unfolding overlap
+back-wall {a} {from} {to} {b} {from′} {to′} w = le-leb 1 (overlap from′ to′ from to) (omega (arith, w .starts, w .ends, w .starts′, w .ends′))
+
+pub shares-of : (r s : Rect) → share r s ≡ true → Shares r s
+unfolding share
+shares-of r s h = go (or-cases _ _ h)
+  where
+    across : Touch (r .x1) (r .x2) (s .x1) (s .x2) → 1 ≤ overlap (r .y1) (r .y2) (s .y1) (s .y2) → Shares r s
+    across (inl e) l = record { side = 3; few = omega arith; stands = wall-of (r .x2) (r .y1) (r .y2) (s .x1) (s .y1) (s .y2) e l }
+    across (inr e) l = record {
+      side = 1;
+      few = omega arith;
+      stands = wall-of (s .x2) (s .y1) (s .y2) (r .x1) (r .y1) (r .y2) e (unfold overlap in omega arith);
+    }
+
+    along : Touch (r .y1) (r .y2) (s .y1) (s .y2) → 1 ≤ overlap (r .x1) (r .x2) (s .x1) (s .x2) → Shares r s
+    along (inl e) l = record { side = 0; few = omega arith; stands = wall-of (r .y2) (r .x1) (r .x2) (s .y1) (s .x1) (s .x2) e l }
+    along (inr e) l = record {
+      side = 2;
+      few = omega arith;
+      stands = wall-of (s .y2) (s .x1) (s .x2) (r .y1) (r .x1) (r .x2) e (unfold overlap in omega arith);
+    }
+
+    go : ((abut (r .x1) (r .x2) (s .x1) (s .x2) && leb 1 (overlap (r .y1) (r .y2) (s .y1) (s .y2))) ≡ true)
+        ⊎ ((abut (r .y1) (r .y2) (s .y1) (s .y2) && leb 1 (overlap (r .x1) (r .x2) (s .x1) (s .x2))) ≡ true) → Shares r s
+    go (inl e) = let (a, b) = and-parts _ _ e in across (touch-of (r .x1) (r .x2) (s .x1) (s .x2) a) (leb-true 1 (overlap (r .y1) (r .y2) (s .y1) (s .y2)) b)
+    go (inr e) = let (a, b) = and-parts _ _ e in along (touch-of (r .y1) (r .y2) (s .y1) (s .y2) a) (leb-true 1 (overlap (r .x1) (r .x2) (s .x1) (s .x2)) b)
+
+pub of-shares : (r s : Rect) → Shares r s → share r s ≡ true
+unfolding share
+of-shares r s h = go (h .side) (h .few) (h .stands)
+  where
+    across : Touch (r .x1) (r .x2) (s .x1) (s .x2) → leb 1 (overlap (r .y1) (r .y2) (s .y1) (s .y2)) ≡ true → share r s ≡ true
+    across t l = or-left _ _ (and-both _ _ (of-touch (r .x1) (r .x2) (s .x1) (s .x2) t) l)
+
+    along : Touch (r .y1) (r .y2) (s .y1) (s .y2) → leb 1 (overlap (r .x1) (r .x2) (s .x1) (s .x2)) ≡ true → share r s ≡ true
+    along t l = or-right (abut (r .x1) (r .x2) (s .x1) (s .x2) && leb 1 (overlap (r .y1) (r .y2) (s .y1) (s .y2))) _
+        (and-both _ _ (of-touch (r .y1) (r .y2) (s .y1) (s .y2) t) l)
+
+    go : (k : ℕ) → k < 4 → Stands k r s → share r s ≡ true
+    go zero l w = along (inl (w .line)) (of-wall w)
+    go (suc zero) l w = across (inr (w .line)) (back-wall w)
+    go (suc (suc zero)) l w = along (inr (w .line)) (back-wall w)
+    go (suc (suc (suc zero))) l w = across (inl (w .line)) (of-wall w)
+    go (suc (suc (suc (suc k)))) l w = absurd (omega arith)
+
+-- the order of a kind
+onward-of : (k : ℕ) (r s : Rect) → follows k r s ≡ true → Onward k r s
+unfolding follows
+onward-of zero r s h = ltb-true (s .x1) (r .x1) h
+onward-of (suc zero) r s h = ltb-true (s .y1) (r .y1) h
+onward-of (suc (suc zero)) r s h = ltb-true (r .x1) (s .x1) h
+onward-of (suc (suc (suc k))) r s h = ltb-true (r .y1) (s .y1) h
+
+of-onward : (k : ℕ) (r s : Rect) → Onward k r s → follows k r s ≡ true
+unfolding follows
+of-onward zero r s h = lt-ltb (s .x1) (r .x1) h
+of-onward (suc zero) r s h = lt-ltb (s .y1) (r .y1) h
+of-onward (suc (suc zero)) r s h = lt-ltb (r .x1) (s .x1) h
+of-onward (suc (suc (suc k))) r s h = lt-ltb (r .y1) (s .y1) h
+
+star-of : (p : Plan) (s : Star) → pairwise (inOrder p) s ≡ true → (d e : Entry) → Earlier d e s → d .kind ≡ e .kind
+    → Onward (d .kind) (rectOf p (d .to)) (rectOf p (e .to))
+unfolding pairwise inOrder
+star-of p (c ∷ s) h d e (here m) same =
+    onward-of (c .kind) (rectOf p (c .to)) (rectOf p (e .to))
+    (implied (eqb (c .kind) (e .kind)) _ (all-mem (inOrder p c) s (and-parts _ _ h .0) e m) (eq-eqb (c .kind) (e .kind) same))
+star-of p (c ∷ s) h d e (there x) same = star-of p s (and-parts (all (inOrder p c) s) _ h .1) d e x same
+
+of-star : (p : Plan) (s : Star) → ((d e : Entry) → Earlier d e s → d .kind ≡ e .kind → Onward (d .kind) (rectOf p (d .to)) (rectOf p (e .to)))
+    → pairwise (inOrder p) s ≡ true
+unfolding pairwise inOrder
+of-star p [] h = refl
+of-star p (c ∷ s) h =
+    and-both _ _
+    (mem-all (inOrder p c) s
+    (λ e m. implies (eqb (c .kind) (e .kind)) _ (λ q. of-onward (c .kind) (rectOf p (c .to)) (rectOf p (e .to))
+    (h c e (here m) (eqb-true (c .kind) (e .kind) q)))))
+    (of-star p s (λ d e x. h d e (there x)))
+
+module _ (j : Job) (p : Plan) (c : Complete j p) where
+  -- a test of pairs, at two vertices
+  pair-at : (t : Rect → Rect → Bool) → pairwise t (p .rects) ≡ true → (u v : ℕ) → u < v → Vertex j v → t (rectOf p u) (rectOf p v) ≡ true
+  unfolding rectOf
+  pair-at t h u v l hv = pairwise-at t (p .rects) nowhere h u v l (omega (arith, c .count))
+
+  at-pair : (t : Rect → Rect → Bool) → ((u v : ℕ) → u < v → Vertex j v → t (rectOf p u) (rectOf p v) ≡ true) → pairwise t (p .rects) ≡ true
+  unfolding rectOf
+  at-pair t h = at-pairwise t (p .rects) nowhere (λ u v l hv. h u v l (omega (arith, c .count)))
+
+  rect-at : (t : Rect → Bool) → all t (p .rects) ≡ true → (v : ℕ) → Vertex j v → t (rectOf p v) ≡ true
+  unfolding rectOf
+  rect-at t h v hv = all-mem t (p .rects) h (rectOf p v) (mem-getD (p .rects) v nowhere (omega (arith, c .count)))
+
+  at-rect : (t : Rect → Bool) → ((v : ℕ) → Vertex j v → t (rectOf p v) ≡ true) → all t (p .rects) ≡ true
+  unfolding rectOf
+  at-rect t h = all-at t (p .rects) nowhere (λ v hv. h v (omega (arith, c .count)))
+
+  -- the numbers that the rectangles carry are their vertices'
+  named : (u v : ℕ) → Vertex j u → Vertex j v → joined j (rectOf p u .vertex) (rectOf p v .vertex) ≡ joined j u v
+  named u v hu hv = ap (λ n. joined j n (rectOf p v .vertex)) (c .vertex u hu) ∙ ap (λ n. joined j u n) (c .vertex v hv)
+
+  -- THE TEST SAYS THE FACTS
+  pub drawable-draws : drawable j p ≡ true → Draws j p
+  unfolding drawable sharesJoined corner
+  drawable-draws h =
+      let (t5, order) = and-parts _ _ h in
+      let (t4, corners) = and-parts _ _ t5 in
+      let (t3, shared) = and-parts _ _ t4 in
+      let (t2, sums) = and-parts _ _ t3 in
+      let (insides, aparts) = and-parts _ _ t2 in
+      record {
+        inside = λ v hv. inside-of p (rectOf p v) (rect-at (inside p) insides v hv);
+        apart = λ u v l hv. apart-of (rectOf p u) (rectOf p v) (pair-at apart aparts u v l hv);
+        areas = eqb-true (sum (map area (p .rects))) (p .width * p .height) sums;
+        shares = λ u v l hv s.
+            joined-of j u v (sym (named u v (omega arith) hv) ∙ implied (share (rectOf p u) (rectOf p v)) _ (pair-at (sharesJoined j) shared u v l hv)
+            (of-shares (rectOf p u) (rectOf p v) s));
+        corners = λ u v l hv x y.
+            not-and (corner (rectOf p u) (rectOf p v)) (pair-at (λ r s. not (corner r s)) corners u v l hv)
+            (and-both _ _ (of-touch (rectOf p u .x1) (rectOf p u .x2) (rectOf p v .x1) (rectOf p v .x2) x)
+            (of-touch (rectOf p u .y1) (rectOf p u .y2) (rectOf p v .y1) (rectOf p v .y2) y));
+        order = λ u r.
+            star-of p (starOf j u) (all-mem (pairwise (inOrder p)) j order (starOf j u)
+            (rw (star-room j u (r .0)) (mem-getD j (u - 4) [] (omega (arith, r .0, r .1)))));
+      }
+
+  -- THE FACTS MAKE THE TEST
+  pub draws-drawable : Draws j p → drawable j p ≡ true
+  unfolding drawable sharesJoined corner
+  draws-drawable d =
+      and-both _ _
+      (and-both _ _
+      (and-both _ _
+      (and-both _ _
+      (and-both _ _ (at-rect (inside p) (λ v hv. of-inside p (rectOf p v) (d .inside v hv)))
+      (at-pair apart (λ u v l hv. of-apart (rectOf p u) (rectOf p v) (d .apart u v l hv))))
+      (eq-eqb (sum (map area (p .rects))) (p .width * p .height) (d .areas)))
+      (at-pair (sharesJoined j)
+      (λ u v l hv.
+      implies (share (rectOf p u) (rectOf p v)) _ (λ s. named u v (omega arith) hv ∙ of-joined j u v
+      (d .shares u v l hv (shares-of (rectOf p u) (rectOf p v) s))))))
+      (at-pair (λ r s. not (corner r s))
+      (λ u v l hv.
+      not-of (corner (rectOf p u) (rectOf p v))
+      (λ e.
+      let (x, y) = and-parts _ _ e in
+      d .corners u v l hv (touch-of (rectOf p u .x1) (rectOf p u .x2) (rectOf p v .x1) (rectOf p v .x2) x)
+      (touch-of (rectOf p u .y1) (rectOf p u .y2) (rectOf p v .y1) (rectOf p v .y2) y)))))
+      (mem-all (pairwise (inOrder p)) j
+      (λ s m. let (i, l, e) = getD-mem j s [] m in of-star p s (rw (star-at j i, e) at (d .order (4 + i) (omega arith, omega arith)))))

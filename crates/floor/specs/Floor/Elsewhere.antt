@@ -1,0 +1,100 @@
+-- Plans drawn elsewhere: where a job has any good plan, its walls run in no circle, and the plan by wall numbers is good. Assumes nothing.
+use mathlib.Core.Path.{_≡_, refl, _∙_}
+use mathlib.Core.Bool.{cond}
+use mathlib.Core.Option.{some}
+use mathlib.Core.List.{List, [], List·Memᴰ}
+use Prim.Native.Nat.{ℕ, _+_, _-_, _*_, _/_, _%_, _≤_, _<_}
+use native.Mathlib.Omega.{arith}
+use lib.Dec.{eqb}
+use lib.ListN.{length, getD}
+use borrow.Author.Tests.{eq-eqb, ne-eqb}
+use Rattle.floor.specs.Jobs.{Entry, Job}
+use Rattle.floor.specs.Jobs.Facts.{Passes}
+use Rattle.floor.specs.Walls.{Respects, Axis, upright, level, low, high, rules, at, jobNumbers}
+use Rattle.floor.specs.Walls.Rules.{Obeys, obeys-respects, numbered, numbers-are}
+use Rattle.floor.specs.Plans.{Plan, planOf}
+use Rattle.floor.specs.Floor.{GoodPlan}
+use Rattle.floor.specs.Floor.Sides.{Side, up, right, opp, round, Piece, room, Place, size, Known, Meets, Good}
+use Rattle.floor.specs.Floor.Cover.{size-opp}
+use Rattle.floor.specs.Floor.Again.{good-again, good-tri}
+use Rattle.floor.specs.Floor.Read.{num, piece, piece-room, starsOf, entry-mem, known-piece, entry-ok, lawful}
+use Rattle.floor.specs.Floor.Placed.{placeOf}
+use Rattle.floor.specs.Floor.Bridge.{plan-good, good-plan}
+use Rattle.floor.specs.Floor.Ours.{plan-complete, plan-fits}
+
+-- the place of a wall's side, read off a plan in direction k
+unfoldable measure : Place → Side → ℕ → ℕ
+measure p k n = cond (eqb (n % 2) 0) (size p k - p .at (opp k) (piece (n / 2))) (p .at k (piece (n / 2)))
+
+measure-low : (p : Place) (k : Side) (v : ℕ) → measure p k (low v) ≡ size p k - p .at (opp k) (piece v)
+unfolding measure
+measure-low p k v = let e : (2 * v) / 2 ≡ v = omega arith in rw (eq-eqb ((2 * v) % 2) 0 (omega arith), e)
+
+measure-high : (p : Place) (k : Side) (v : ℕ) → measure p k (high v) ≡ p .at k (piece v)
+unfolding measure
+measure-high p k v = let e : (2 * v + 1) / 2 ≡ v = omega arith in rw (ne-eqb ((2 * v + 1) % 2) 0 (λ z. omega arith), e)
+
+module _ (j : Job) (ok : Passes j) (p : Place) (g : Good (starsOf j) p) where
+  meet : (k : Side) (i : ℕ) → i < length j → (e : Entry) → List·Memᴰ e (getD j i []) → e .kind ≡ num k
+      → Known (starsOf j) (piece (e .to)) × Meets p k (room i) (piece (e .to))
+  unfolding starsOf
+  meet k i h e m ke =
+      let q : Known (starsOf j) (piece (e .to)) = known-piece j (e .to) (entry-ok j ok i h e m .below) in
+      (q, g .meets k (room i) (piece (e .to)) h q (entry-mem (getD j i []) (num k) e m ke))
+
+  -- A GOOD PLAN'S PLACES RESPECT THE WALLS: k is where the direction leads, c the side of its cross contacts
+  along : (a : Axis) (k c : Side) → a .far ≡ num k → a .near ≡ num (opp k) → a .cross ≡ num c
+      → ((u v : Piece) → Meets p c u v → (size p k < p .at k u + p .at (opp k) v) × (size p k < p .at (opp k) u + p .at k v)) → Obeys a (measure p k) j
+  unfolding starsOf
+  along a k c ef en ec cross = record {
+    own = λ i h. rw (measure-low p k (4 + i), measure-high p k (4 + i), piece-room i)
+        (omega (arith, g .thick k (room i) h, g .inside (opp k) (room i) h, size-opp p k));
+    each = λ i h e m. record {
+      if-far = λ ke.
+          let (kn, t) = meet k i h e m (ke ∙ ef) in
+          rw (measure-low p k (e .to), measure-high p k (4 + i), piece-room i) (omega (arith, t .touch));
+      if-near = λ ke.
+          let (kn, t) = meet (opp k) i h e m (ke ∙ en) in
+          let f : p .at (opp k) (room i) + p .at k (piece (e .to)) ≡ size p (opp k) = rw (round k) at (t .touch) in
+          rw (measure-low p k (4 + i), measure-high p k (e .to), piece-room i) (omega (arith, size-opp p k));
+      if-cross = λ ke l.
+          let (kn, t) = meet c i h e m (ke ∙ ec) in
+          let (x, y) = cross (room i) (piece (e .to)) t in
+          let d : p .at (opp k) (piece (e .to)) ≤ size p (opp k) = g .inside (opp k) (piece (e .to)) kn in
+          let f : p .at (opp k) (room i) ≤ size p (opp k) = g .inside (opp k) (room i) h in
+          rw (measure-low p k (4 + i), measure-low p k (e .to), measure-high p k (4 + i), measure-high p k (e .to), piece-room i)
+          (omega (arith, size-opp p k), omega (arith, size-opp p k));
+    };
+  }
+
+  good-upright : Respects (rules upright j) (measure p right)
+  good-upright = obeys-respects upright (measure p right) j (along upright right up refl refl refl (λ u v t. (t .behind, omega (arith, t .ahead))))
+
+  good-level : Respects (rules level j) (measure p up)
+  good-level = obeys-respects level (measure p up) j (along level up right refl refl refl (λ u v t. (t .ahead, omega (arith, t .behind))))
+
+-- what a job with a good plan has
+pub record Ours (j : Job) : Type 0 where
+  pub xs : List ℕ
+  pub ys : List ℕ
+  pub is-upright : jobNumbers upright j ≡ some xs
+  pub is-level : jobNumbers level j ≡ some ys
+  pub good : GoodPlan j (planOf j (at xs) (at ys))
+
+-- A JOB WITH ANY GOOD PLAN HAS ITS NUMBERS, AND OUR PLAN IS GOOD
+pub good-ours : (j : Job) → Passes j → (p : Plan) → GoodPlan j p → Ours j
+unfolding starsOf
+good-ours j ok p gp =
+    let g : Good (starsOf j) (placeOf p) = plan-good j ok p gp in
+    let (i, b) = good-tri (starsOf j) (lawful j ok) (placeOf p) g .base in
+    let (f, ef) = numbered upright j ok (measure (placeOf p) right) (good-upright j ok (placeOf p) g) in
+    let (h, eh) = numbered level j ok (measure (placeOf p) up) (good-level j ok (placeOf p) g) in
+    record {
+      xs = f;
+      ys = h;
+      is-upright = ef;
+      is-level = eh;
+      good = good-plan j ok (planOf j (at f) (at h)) (plan-complete j (at f) (at h))
+          (good-again (starsOf j) (lawful j ok) (placeOf p) (placeOf (planOf j (at f) (at h))) g
+          (plan-fits j ok (omega (arith, b .0)) (at f) (at h) (numbers-are upright j ok f ef) (numbers-are level j ok h eh)));
+    }

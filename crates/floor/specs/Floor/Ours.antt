@@ -1,0 +1,350 @@
+-- The plan by wall numbers: complete, framed, inside the sheet, and every contact met on its side. Assumes nothing.
+use mathlib.Core.Path.{_≡_, refl, sym, ap, _∙_}
+use mathlib.Core.Logic.{_⊎_, inl, inr}
+use mathlib.Core.List.{[], List·Memᴰ}
+use Prim.Native.Nat.{ℕ, zero, suc, _+_, _-_, _≤_, _<_, max}
+use native.Mathlib.Omega.{arith}
+use lib.ListN.{length, getD, length-map}
+use Rattle.floor.specs.Lists.Laws.{getD-upFrom, length-upFrom}
+use Rattle.floor.specs.Jobs.{Entry, Job, Vertex, rooms}
+use Rattle.floor.specs.Jobs.Facts.{Passes}
+use Rattle.floor.specs.Walls.{Numbers, Axis, upright, level, low, high, rules}
+use Rattle.floor.specs.Walls.Walk.{numbers-positive, numbers-respects}
+use Rattle.floor.specs.Walls.Rules.{Obeys, obeys-respects, respects-obeys, to-vertex, job-bound, numbers-least}
+use Rattle.floor.specs.Plans.{Plan, nowhere, rectOf, roomRect, planOf}
+use Rattle.floor.specs.Floor.{Wall, Stands, Complete, Framed, Inside}
+use Rattle.floor.specs.Floor.Sides.{Side, up, left, down, right, opp, Piece, side, room, size, Known, Contact, Meets, Fits}
+use Rattle.floor.specs.Floor.Whole.{flip, frame-meets}
+use Rattle.floor.specs.Floor.Read.{num, number, starsOf, mem-entry, every-kind, leads, lawful}
+use Rattle.floor.specs.Floor.Joins.{contact-back}
+use Rattle.floor.specs.Floor.Placed.{wall-at, reach, placeOf, framed-shape, inside-place, thick-place, stands-meets}
+
+-- one direction of a job, where it leads, and its numbers
+pub record Way (j : Job) : Type 0 where
+  pub axis : Axis
+  pub to : Side
+  pub is-far : axis .far ≡ num to
+  pub is-near : axis .near ≡ num (opp to)
+  pub number-of : ℕ → ℕ
+  pub numbers : Numbers (rules axis j) number-of
+
+-- ONE DIRECTION
+module _ (j : Job) (ok : Passes j) (w : Way j) where
+  abbrev a : Axis
+  a = w .axis
+
+  abbrev k : Side
+  k = w .to
+
+  abbrev f : ℕ → ℕ
+  f = w .number-of
+
+  abbrev n : Numbers (rules a j) f
+  n = w .numbers
+
+  pub obeyed : Obeys a f j
+  obeyed = respects-obeys a f j (numbers-respects (rules a j) f n)
+
+  -- no room lies before the first frame side, by the walk towards it
+  lowest : (m i : ℕ) → f (low (4 + i)) ≤ m → i < length j → f (high (num (opp k))) ≤ f (low (4 + i))
+  lowest zero i l h = absurd (omega (arith, numbers-positive (rules a j) f n (low (4 + i))))
+  lowest (suc m) i l h =
+      let (e, me, ke) = every-kind j ok (opp k) i h in
+      go e (obeyed .each i h e me .if-near (ke ∙ sym (w .is-near))) (λ r. lowest m r) (leads j ok (opp k) i h e me ke)
+    where
+      go : (e : Entry) → f (high (e .to)) ≡ f (low (4 + i)) → ((r : ℕ) → f (low (4 + r)) ≤ m → r < length j → f (high (num (opp k))) ≤ f (low (4 + r)))
+          → (e .to ≡ num (opp k)) ⊎ ((r : ℕ) × (r < length j) × (e .to ≡ 4 + r)) → f (high (num (opp k))) ≤ f (low (4 + i))
+      go e q below (inl x) = omega (arith, ap (λ v. f (high v)) x)
+      go e q below (inr (r, hr, x)) =
+          let b : f (low (4 + r)) + 1 ≤ f (high (4 + r)) = obeyed .own r hr in
+          let c : f (high (e .to)) ≡ f (high (4 + r)) = ap (λ v. f (high v)) x in
+          omega (arith, below r (omega arith) hr)
+
+  pub from-first : (i : ℕ) → i < length j → f (high (num (opp k))) ≤ f (low (4 + i))
+  from-first i h = lowest (f (low (4 + i))) i (omega arith) h
+
+  -- no room reaches past the last frame side, by the walk towards it
+  one-ahead : (i : ℕ) → i < length j → ((r : ℕ) → r < length j → f (high (4 + i)) < f (high (4 + r)) → f (high (4 + r)) ≤ f (low (num k)))
+      → f (high (4 + i)) ≤ f (low (num k))
+  one-ahead i h below =
+      let (e, me, ke) = every-kind j ok k i h in
+      go e (obeyed .each i h e me .if-far (ke ∙ sym (w .is-far))) (leads j ok k i h e me ke)
+    where
+      go : (e : Entry) → f (high (4 + i)) ≡ f (low (e .to)) → (e .to ≡ num k) ⊎ ((r : ℕ) × (r < length j) × (e .to ≡ 4 + r))
+          → f (high (4 + i)) ≤ f (low (num k))
+      go e q (inl x) = omega (arith, ap (λ v. f (low v)) x)
+      go e q (inr (r, hr, x)) =
+          let b : f (low (4 + r)) + 1 ≤ f (high (4 + r)) = obeyed .own r hr in
+          let c : f (low (e .to)) ≡ f (low (4 + r)) = ap (λ v. f (low v)) x in
+          omega (arith, below r hr (omega arith))
+
+  highest : (m i : ℕ) → 1 + length j ≤ f (high (4 + i)) + m → i < length j → f (high (4 + i)) ≤ f (low (num k))
+  highest zero i l h = one-ahead i h (λ r hr q. absurd (omega (arith, job-bound a j ok f n (high (4 + r)))))
+  highest (suc m) i l h = one-ahead i h (λ r hr q. highest m r (omega arith) hr)
+
+  -- where a room lies
+  pub record Lies (i : ℕ) : Type 0 where
+    pub first : 1 ≤ f (low (4 + i))
+    pub own : f (low (4 + i)) + 1 ≤ f (high (4 + i))
+    pub last : f (high (4 + i)) ≤ f (low (num k))
+
+  pub lies : (i : ℕ) → i < length j → Lies i
+  lies i h = record { first = numbers-positive (rules a j) f n (low (4 + i)); own = obeyed .own i h; last = highest (1 + length j) i (omega arith) h }
+
+  -- THE FIRST FRAME SIDE'S WALL IS NUMBER 1: else all numbers could be less
+  pub first-one : f (high (num (opp k))) ≡ 1
+  first-one =
+      omega (
+        arith,
+        numbers-positive (rules a j) f n (high (num (opp k))),
+        numbers-least a j f g n (λ s. omega arith) (obeys-respects a g j less)
+            (high (num (opp k))),
+      )
+    where
+      g : ℕ → ℕ
+      g s = max 1 (f s + 1 - f (high (num (opp k))))
+
+      less : Obeys a g j
+      less = record {
+        own = λ i h. omega (arith, obeyed .own i h, from-first i h);
+        each = λ i h e m. record {
+          if-far = λ q. ap (λ v. max 1 (v + 1 - f (high (num (opp k))))) (obeyed .each i h e m .if-far q);
+          if-near = λ q. ap (λ v. max 1 (v + 1 - f (high (num (opp k))))) (obeyed .each i h e m .if-near q);
+          if-cross = λ q l.
+              let z : 4 + (e .to - 4) ≡ e .to = omega arith in
+              let c : f (high (num (opp k))) ≤ f (low (e .to)) = rw z at (from-first (e .to - 4) (omega (arith, to-vertex j ok i h e m))) in
+              let (x, y) = obeyed .each i h e m .if-cross q l in
+              (omega (arith, from-first i h), omega arith);
+        };
+      }
+
+  -- what stands in a list of the direction lies on one wall
+  pub far-wall : (i : ℕ) (v : Piece) → i < length j → List·Memᴰ v (starsOf j .list k i) → f (high (4 + i)) ≡ f (low (number v))
+  unfolding starsOf
+  far-wall i v h m = let (e, me, ke, te) = mem-entry v (getD j i []) (num k) m in rw (← te) (obeyed .each i h e me .if-far (ke ∙ sym (w .is-far)))
+
+  pub near-wall : (i : ℕ) (v : Piece) → i < length j → List·Memᴰ v (starsOf j .list (opp k) i) → f (high (number v)) ≡ f (low (4 + i))
+  unfolding starsOf
+  near-wall i v h m = let (e, me, ke, te) = mem-entry v (getD j i []) (num (opp k)) m in rw (← te) (obeyed .each i h e me .if-near (ke ∙ sym (w .is-near)))
+
+  -- and across it, rooms reach over one another
+  pub cross-wall : (c : Side) → a .cross ≡ num c → (i r : ℕ) → i < length j → List·Memᴰ (room r) (starsOf j .list c i)
+      → (f (low (4 + i)) + 1 ≤ f (high (4 + r))) × (f (low (4 + r)) + 1 ≤ f (high (4 + i)))
+  unfolding starsOf
+  cross-wall c ec i r h m =
+      let (e, me, ke, te) = mem-entry (room r) (getD j i []) (num c) m in
+      rw (← te) (obeyed .each i h e me .if-cross (ke ∙ sym ec) (omega arith))
+
+-- BOTH DIRECTIONS: contacts along w lie on one wall by its numbers, and reach over one another by those of v, the way across;
+-- across, the frame sides span from lo to hi, past every room
+module _ (j : Job) (ok : Passes j) (w v : Way j) (across : v .axis .cross ≡ num (w .to)) (lo hi : ℕ) (from : lo ≤ 1)
+    (past : v .number-of (low (num (v .to))) ≤ hi) where
+  abbrev along : ℕ → ℕ
+  along = w .number-of
+
+  abbrev aside : ℕ → ℕ
+  aside = v .number-of
+
+  room-room : (i r : ℕ) → i < length j → r < length j → List·Memᴰ (room r) (starsOf j .list (w .to) i)
+      → Wall (along (high (4 + i))) (aside (low (4 + i))) (aside (high (4 + i))) (along (low (4 + r))) (aside (low (4 + r))) (aside (high (4 + r)))
+  room-room i r hi hr m =
+      let (x, y) = cross-wall j ok v (w .to) across i r hi m in
+      let a : Lies j ok v i = lies j ok v i hi in
+      let b : Lies j ok v r = lies j ok v r hr in
+      wall-at (along (high (4 + i))) (aside (low (4 + i))) (aside (high (4 + i))) (along (low (4 + r))) (aside (low (4 + r))) (aside (high (4 + r)))
+      (far-wall j ok w i (room r) hi m) (omega (arith, a .own)) (omega (arith, b .own)) (omega arith) (omega arith)
+
+  room-frame : (i e : ℕ) → i < length j → along (low (num (w .to))) ≡ e → List·Memᴰ (side (w .to)) (starsOf j .list (w .to) i)
+      → Wall (along (high (4 + i))) (aside (low (4 + i))) (aside (high (4 + i))) e lo hi
+  room-frame i e h q m =
+      let a : Lies j ok v i = lies j ok v i h in
+      record {
+        line = far-wall j ok w i (side (w .to)) h m ∙ q;
+        c = aside (low (4 + i));
+        starts = omega arith;
+        ends = omega (arith, a .own);
+        starts′ = omega (arith, a .first);
+        ends′ = omega (arith, a .own, a .last);
+      }
+
+  frame-room : (r : ℕ) → r < length j → List·Memᴰ (side (opp (w .to))) (starsOf j .list (opp (w .to)) r)
+      → Wall 1 lo hi (along (low (4 + r))) (aside (low (4 + r))) (aside (high (4 + r)))
+  frame-room r h m =
+      let a : Lies j ok v r = lies j ok v r h in
+      record {
+        line = sym (first-one j ok w) ∙ near-wall j ok w r (side (opp (w .to))) h m;
+        c = aside (low (4 + r));
+        starts = omega (arith, a .first);
+        ends = omega (arith, a .own, a .last);
+        starts′ = omega arith;
+        ends′ = omega (arith, a .own);
+      }
+
+-- a room's rectangle in the plan by numbers, and that the plan is complete
+pub room-rect : (j : Job) (f g : ℕ → ℕ) (i : ℕ) → i < length j → rectOf (planOf j f g) (4 + i) ≡ roomRect f g (4 + i)
+unfolding rectOf planOf rooms
+room-rect j f g i h =
+    let e : 4 + i ≡ suc (suc (suc (suc i))) = omega arith in
+    rw e (getD-upFrom (roomRect f g) 4 (length j) i nowhere h ∙ ap (roomRect f g) e)
+
+pub plan-complete : (j : Job) (f g : ℕ → ℕ) → Complete j (planOf j f g)
+unfolding planOf rectOf roomRect rooms
+plan-complete j f g = record { count = omega (arith, length-map (rooms j) (roomRect f g), length-upFrom 4 (length j)); vertex = vertex }
+  where
+    vertex : (v : ℕ) → Vertex j v → rectOf (planOf j f g) v .vertex ≡ v
+    vertex zero h = refl
+    vertex (suc zero) h = refl
+    vertex (suc (suc zero)) h = refl
+    vertex (suc (suc (suc zero))) h = refl
+    vertex (suc (suc (suc (suc i)))) h =
+        let e : 4 + i ≡ suc (suc (suc (suc i))) = omega arith in
+        let r : rectOf (planOf j f g) (4 + i) .vertex ≡ 4 + i = ap (λ r. r .vertex) (room-rect j f g i (omega arith)) in
+        rw e at r
+
+pub plan-framed : (j : Job) (f g : ℕ → ℕ) → Framed (planOf j f g)
+unfolding planOf rectOf
+plan-framed j f g = record {
+  w-x1 = refl;
+  w-y1 = refl;
+  w-y2 = refl;
+  e-x2 = refl;
+  e-y1 = refl;
+  e-y2 = refl;
+  n-x1 = refl;
+  n-x2 = refl;
+  n-y2 = refl;
+  s-x1 = refl;
+  s-x2 = refl;
+  s-y1 = refl;
+}
+
+-- THE PLAN BY WALL NUMBERS
+module _ (j : Job) (ok : Passes j) (some-room : 0 < length j) (f g : ℕ → ℕ) (nf : Numbers (rules upright j) f) (ng : Numbers (rules level j) g) where
+  abbrev p : Plan
+  p = planOf j f g
+
+  abbrev along-x : Way j
+  along-x = record { axis = upright; to = right; is-far = refl; is-near = refl; number-of = f; numbers = nf }
+
+  abbrev along-y : Way j
+  along-y = record { axis = level; to = up; is-far = refl; is-near = refl; number-of = g; numbers = ng }
+
+  x-lies : (i : ℕ) → i < length j → Lies j ok along-x i
+  x-lies i h = lies j ok along-x i h
+
+  y-lies : (i : ℕ) → i < length j → Lies j ok along-y i
+  y-lies i h = lies j ok along-y i h
+
+  room-inside : (i : ℕ) → i < length j → Inside p (rectOf p (4 + i))
+  unfolding planOf roomRect
+  room-inside i h =
+      let x : Lies j ok along-x i = x-lies i h in
+      let y : Lies j ok along-y i = y-lies i h in
+      rw (room-rect j f g i h) (record {
+        wide = omega (arith, x .own);
+        tall = omega (arith, y .own);
+        in-width = omega (arith, x .last);
+        in-height = omega (arith, y .last);
+      })
+
+  -- every rectangle has at least a cell and lies inside the sheet
+  pub plan-inside : (v : ℕ) → Vertex j v → Inside p (rectOf p v)
+  plan-inside v h = go v h (x-lies 0 some-room) (y-lies 0 some-room)
+    where
+      go : (v : ℕ) → Vertex j v → Lies j ok along-x 0 → Lies j ok along-y 0 → Inside p (rectOf p v)
+      go zero h x y = unfold planOf rectOf in record {
+        wide = omega (arith, x .first, x .own, x .last);
+        tall = omega arith;
+        in-width = omega arith;
+        in-height = omega arith;
+      }
+      go (suc zero) h x y = unfold planOf rectOf in record { wide = omega arith; tall = omega arith; in-width = omega arith; in-height = omega arith }
+      go (suc (suc zero)) h x y = unfold planOf rectOf in record {
+        wide = omega (arith, x .first, x .own, x .last);
+        tall = omega arith;
+        in-width = omega arith;
+        in-height = omega arith;
+      }
+      go (suc (suc (suc zero))) h x y = unfold planOf rectOf in record {
+        wide = omega arith;
+        tall = omega arith;
+        in-width = omega arith;
+        in-height = omega arith;
+      }
+      go (suc (suc (suc (suc i)))) h x y =
+          let e : 4 + i ≡ suc (suc (suc (suc i))) = omega arith in
+          rw e at (room-inside i (omega arith))
+
+  within : (k : Side) (i : ℕ) → i < length j → placeOf p .at k (room i) + placeOf p .at (opp k) (side k) ≤ size (placeOf p) k
+  unfolding placeOf reach planOf rectOf roomRect
+  within right i h = omega (arith, x-lies i h .last, ap (λ r. r .x2) (room-rect j f g i h))
+  within left i h = omega (arith, x-lies i h .first, ap (λ r. r .x1) (room-rect j f g i h))
+  within up i h = omega (arith, y-lies i h .last, ap (λ r. r .y2) (room-rect j f g i h))
+  within down i h = omega (arith, y-lies i h .first, ap (λ r. r .y1) (room-rect j f g i h))
+
+  gap : placeOf p .at up (side down) + placeOf p .at down (side up) < placeOf p .height
+  unfolding placeOf reach planOf rectOf
+  gap = let y : Lies j ok along-y 0 = y-lies 0 some-room in omega (arith, y .first, y .own, y .last)
+
+  stand : (k : Side) (u v : Piece) → Known (starsOf j) u → Known (starsOf j) v → Stands (num k) (rectOf p (number u)) (rectOf p (number v))
+      → Meets (placeOf p) k u v
+  stand = stands-meets j p plan-inside
+
+  frames : (k t r : Side) → Contact (starsOf j) k (side t) (side r) → Meets (placeOf p) k (side t) (side r)
+  frames = frame-meets (starsOf j) (placeOf p) (framed-shape p (plan-framed j f g) (plan-inside 1 (omega arith)) (plan-inside 3 (omega arith)))
+      (inside-place j p plan-inside) (thick-place j p plan-inside) gap
+
+  meets-right : (u v : Piece) → Known (starsOf j) u → Known (starsOf j) v → Contact (starsOf j) right u v → Meets (placeOf p) right u v
+  unfolding planOf rectOf roomRect starsOf
+  meets-right (room i) (room r) hu hv m =
+      stand right (room i) (room r) hu hv (rw (room-rect j f g i hu, room-rect j f g r hv) (room-room j ok along-x along-y refl 0 (g (low 0) + 1)
+      (omega arith) (omega arith) i r hu hv m))
+  meets-right (room i) (side t) hu hv m =
+      rw e (stand right (room i) (side right) hu tt (rw (room-rect j f g i hu) (room-frame j ok along-x along-y refl 0 (g (low 0) + 1) (omega arith)
+      (omega arith) i (f (low 3) + 1 - 1) hu (omega arith) (rw e at m))))
+    where
+      e : t ≡ right
+      e = lawful j ok .known right i (side t) hu m
+  meets-right (side t) (room r) hu hv m =
+      rw e (stand right (side left) (room r) tt hv (rw (room-rect j f g r hv) (frame-room j ok along-x along-y refl 0 (g (low 0) + 1) (omega arith)
+      (omega arith) r hv (rw e at m))))
+    where
+      e : t ≡ left
+      e = lawful j ok .known left r (side t) hv m
+  meets-right (side t) (side r) hu hv m = frames right t r m
+
+  meets-up : (u v : Piece) → Known (starsOf j) u → Known (starsOf j) v → Contact (starsOf j) up u v → Meets (placeOf p) up u v
+  unfolding planOf rectOf roomRect starsOf
+  meets-up (room i) (room r) hu hv m =
+      stand up (room i) (room r) hu hv (rw (room-rect j f g i hu, room-rect j f g r hv) (room-room j ok along-y along-x refl 1 (f (low 3) + 1 - 1)
+      (omega arith) (omega arith) i r hu hv m))
+  meets-up (room i) (side t) hu hv m =
+      rw e (stand up (room i) (side up) hu tt (rw (room-rect j f g i hu) (room-frame j ok along-y along-x refl 1 (f (low 3) + 1 - 1) (omega arith)
+      (omega arith) i (g (low 0) + 1 - 1) hu (omega arith) (rw e at m))))
+    where
+      e : t ≡ up
+      e = lawful j ok .known up i (side t) hu m
+  meets-up (side t) (room r) hu hv m =
+      rw e (stand up (side down) (room r) tt hv (rw (room-rect j f g r hv) (frame-room j ok along-y along-x refl 1 (f (low 3) + 1 - 1) (omega arith)
+      (omega arith) r hv (rw e at m))))
+    where
+      e : t ≡ down
+      e = lawful j ok .known down r (side t) hv m
+  meets-up (side t) (side r) hu hv m = frames up t r m
+
+  -- OURS MEETS EVERY CONTACT
+  pub plan-fits : Fits (starsOf j) (placeOf p)
+  unfolding starsOf
+  plan-fits = record {
+    shape = framed-shape p (plan-framed j f g) (plan-inside 1 (omega arith)) (plan-inside 3 (omega arith));
+    inside = inside-place j p plan-inside;
+    thick = thick-place j p plan-inside;
+    within = within;
+    meets = meets;
+  }
+    where
+      meets : (k : Side) (u v : Piece) → Known (starsOf j) u → Known (starsOf j) v → Contact (starsOf j) k u v → Meets (placeOf p) k u v
+      meets right u v hu hv m = meets-right u v hu hv m
+      meets up u v hu hv m = meets-up u v hu hv m
+      meets left u v hu hv m = flip right (meets-right v u hv hu (contact-back j ok right u v hu hv m))
+      meets down u v hu hv m = flip up (meets-up v u hv hu (contact-back j ok up u v hu hv m))

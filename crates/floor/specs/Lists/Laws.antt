@@ -1,0 +1,222 @@
+-- What the tests over lists say of their members, and how members are counted. Assumes nothing.
+use Prim.Native.Nat.{ℕ, zero, suc, _+_, _≤_, _<_}
+use mathlib.Core.Path.{_≡_, refl, sym, ap, _∙_}
+use mathlib.Core.Logic.{_⊎_, inl, inr}
+use mathlib.Core.Bool.{Bool, true, false, cond, not, _&&_, _||_}
+use mathlib.Core.List.{List, [], _∷_, _++_, map, List·Memᴰ, List·Memᴰ·head, List·Memᴰ·tail, List·Memᴰ·not-nil}
+use lib.ListN.{length, getD}
+use lib.Dec.{leb}
+use native.Mathlib.Omega.{arith}
+use native.Mathlib.Decide.{ℕ-discrete}
+use borrow.Author.Tests.{leb-true, le-leb}
+use Rattle.floor.specs.Lists.{all, any, keep, pairwise, upFrom}
+
+-- true is not false
+pub no-false : {X : Type 0} → _≡_ {A = Bool} false true → X
+no-false e = let z : _≡_ {A = ℕ} 0 1 = cc in absurd (omega arith)
+
+-- of a conjunction
+pub and-left : (a b : Bool) → (a && b) ≡ true → a ≡ true
+and-left true b e = refl
+and-left false b e = e
+
+pub and-right : (a b : Bool) → (a && b) ≡ true → b ≡ true
+and-right true b e = e
+and-right false b e = no-false e
+
+pub and-parts : (a b : Bool) → (a && b) ≡ true → (a ≡ true) × (b ≡ true)
+and-parts a b e = (and-left a b e, and-right a b e)
+
+pub and-both : (a b : Bool) → a ≡ true → b ≡ true → (a && b) ≡ true
+and-both a b p q = rw (p, q)
+
+-- of a disjunction
+pub or-cases : (a b : Bool) → (a || b) ≡ true → (a ≡ true) ⊎ (b ≡ true)
+or-cases true b e = inl refl
+or-cases false b e = inr e
+
+pub or-left : (a b : Bool) → a ≡ true → (a || b) ≡ true
+or-left a b p = rw p
+
+pub or-right : (a b : Bool) → b ≡ true → (a || b) ≡ true
+or-right true b p = refl
+or-right false b p = p
+
+-- of a negation, and of an implication
+pub not-of : (a : Bool) → (a ≡ true → ⊥) → not a ≡ true
+not-of true h = absurd (h refl)
+not-of false h = refl
+
+pub not-and : (a : Bool) → not a ≡ true → a ≡ true → ⊥
+not-and true e f = no-false e
+not-and false e f = no-false f
+
+pub implies : (a b : Bool) → (a ≡ true → b ≡ true) → (not a || b) ≡ true
+implies true b h = h refl
+implies false b h = refl
+
+pub implied : (a b : Bool) → (not a || b) ≡ true → a ≡ true → b ≡ true
+implied true b e f = e
+implied false b e f = no-false f
+
+-- two tests that pass together are one
+pub same-test : (a b : Bool) → (a ≡ true → b ≡ true) → (b ≡ true → a ≡ true) → a ≡ b
+same-test true b x y = sym (x refl)
+same-test false true x y = y refl
+same-test false false x y = refl
+
+-- a test as a number
+abbrev pub bit : Bool → ℕ
+bit true = 1
+bit false = 0
+
+module _ {A : Type 0} where
+  -- how many pass
+  abbrev pub count : (A → Bool) → List A → ℕ
+  count p xs = length (keep p xs)
+
+  pub count-nil : (p : A → Bool) → count p [] ≡ 0
+  unfolding keep
+  count-nil p = refl
+
+  pub count-cons : (p : A → Bool) (x : A) (xs : List A) → count p (x ∷ xs) ≡ bit (p x) + count p xs
+  unfolding keep
+  count-cons p x xs = go (p x)
+    where
+      go : (b : Bool) → length (cond b (x ∷ keep p xs) (keep p xs)) ≡ bit b + length (keep p xs)
+      go true = omega arith
+      go false = omega arith
+
+  pub count-append : (p : A → Bool) (xs ys : List A) → count p (xs ++ ys) ≡ count p xs + count p ys
+  count-append p [] ys = omega (arith, count-nil p)
+  count-append p (x ∷ xs) ys = omega (arith, count-cons p x (xs ++ ys), count-cons p x xs, count-append p xs ys)
+
+  pub mem-count : (p : A → Bool) (xs : List A) (x : A) → List·Memᴰ x xs → p x ≡ true → 1 ≤ count p xs
+  mem-count p (y ∷ xs) x (List·Memᴰ·head q) e =
+      let c : count p (y ∷ xs) ≡ 1 + count p xs = rw (ap p (sym q) ∙ e) at (count-cons p y xs) in
+      omega arith
+  mem-count p (y ∷ xs) x (List·Memᴰ·tail m) e = omega (arith, count-cons p y xs, mem-count p xs x m e)
+
+  pub count-some : (p : A → Bool) (xs : List A) → 1 ≤ count p xs → (x : A) × (List·Memᴰ x xs) × (p x ≡ true)
+  count-some p [] h = absurd (omega (arith, count-nil p))
+  count-some p (y ∷ xs) h = go (p y) refl (count-some p xs)
+    where
+      go : (b : Bool) → p y ≡ b → (1 ≤ count p xs → (x : A) × (List·Memᴰ x xs) × (p x ≡ true)) → (x : A) × (List·Memᴰ x (y ∷ xs)) × (p x ≡ true)
+      go true e below = (y, List·Memᴰ·head refl, e)
+      go false e below =
+          let c : count p (y ∷ xs) ≡ 0 + count p xs = rw e at (count-cons p y xs) in
+          let (x, m, q) = below (omega arith) in
+          (x, List·Memᴰ·tail m, q)
+
+  pub count-none : (p : A → Bool) (xs : List A) (x : A) → List·Memᴰ x xs → count p xs ≡ 0 → p x ≡ false
+  count-none p xs x m h = go (p x) refl
+    where
+      go : (b : Bool) → p x ≡ b → p x ≡ false
+      go true e = absurd (omega (arith, mem-count p xs x m e))
+      go false e = e
+
+  pub none-count : (p : A → Bool) (xs : List A) → ((x : A) → List·Memᴰ x xs → p x ≡ false) → count p xs ≡ 0
+  none-count p [] h = count-nil p
+  none-count p (x ∷ xs) h =
+      let c : count p (x ∷ xs) ≡ 0 + count p xs = rw (h x (List·Memᴰ·head refl)) at (count-cons p x xs) in
+      omega (arith, none-count p xs (λ y m. h y (List·Memᴰ·tail m)))
+
+  pub any-count : (p : A → Bool) (xs : List A) → any p xs ≡ leb 1 (count p xs)
+  unfolding any
+  any-count p [] = rw (count-nil p)
+  any-count p (x ∷ xs) = go (p x) refl (any-count p xs)
+    where
+      go : (b : Bool) → p x ≡ b → any p xs ≡ leb 1 (count p xs) → (p x || any p xs) ≡ leb 1 (count p (x ∷ xs))
+      go true e below =
+          let c : count p (x ∷ xs) ≡ 1 + count p xs = rw e at (count-cons p x xs) in
+          rw (e, le-leb 1 (count p (x ∷ xs)) (omega arith))
+      go false e below =
+          let c : count p (x ∷ xs) ≡ 0 + count p xs = rw e at (count-cons p x xs) in
+          let d : count p (x ∷ xs) ≡ count p xs = omega arith in
+          rw (e, d) below
+
+  pub any-mem : (p : A → Bool) (xs : List A) → any p xs ≡ true → (x : A) × (List·Memᴰ x xs) × (p x ≡ true)
+  any-mem p xs e = count-some p xs (leb-true 1 (count p xs) (sym (any-count p xs) ∙ e))
+
+  pub mem-any : (p : A → Bool) (xs : List A) (x : A) → List·Memᴰ x xs → p x ≡ true → any p xs ≡ true
+  mem-any p xs x m e = any-count p xs ∙ le-leb 1 (count p xs) (mem-count p xs x m e)
+
+  pub all-mem : (p : A → Bool) (xs : List A) → all p xs ≡ true → (x : A) → List·Memᴰ x xs → p x ≡ true
+  unfolding all
+  all-mem p (y ∷ xs) e x (List·Memᴰ·head q) = rw q (and-left (p y) (all p xs) e)
+  all-mem p (y ∷ xs) e x (List·Memᴰ·tail m) = all-mem p xs (and-right (p y) (all p xs) e) x m
+
+  pub mem-all : (p : A → Bool) (xs : List A) → ((x : A) → List·Memᴰ x xs → p x ≡ true) → all p xs ≡ true
+  unfolding all
+  mem-all p [] h = refl
+  mem-all p (y ∷ xs) h = and-both (p y) (all p xs) (h y (List·Memᴰ·head refl)) (mem-all p xs (λ x m. h x (List·Memᴰ·tail m)))
+
+  -- members by place
+  pub mem-getD : (xs : List A) (i : ℕ) (d : A) → i < length xs → List·Memᴰ (getD xs i d) xs
+  mem-getD [] i d h = absurd (omega arith)
+  mem-getD (x ∷ xs) zero d h = List·Memᴰ·head refl
+  mem-getD (x ∷ xs) (suc i) d h = List·Memᴰ·tail (mem-getD xs i d (omega arith))
+
+  pub getD-mem : (xs : List A) (x d : A) → List·Memᴰ x xs → (i : ℕ) × (i < length xs) × (getD xs i d ≡ x)
+  getD-mem (y ∷ xs) x d (List·Memᴰ·head q) = (0, omega arith, sym q)
+  getD-mem (y ∷ xs) x d (List·Memᴰ·tail m) = let (i, l, e) = getD-mem xs x d m in (suc i, omega arith, e)
+
+  pub all-at : (p : A → Bool) (xs : List A) (d : A) → ((i : ℕ) → i < length xs → p (getD xs i d) ≡ true) → all p xs ≡ true
+  unfolding all
+  all-at p [] d h = refl
+  all-at p (x ∷ xs) d h = rw (h 0 (omega arith)) (all-at p xs d (λ i k. h (suc i) (omega arith)))
+
+  pub at-pairwise : (r : A → A → Bool) (xs : List A) (d : A) → ((i k : ℕ) → i < k → k < length xs → r (getD xs i d) (getD xs k d) ≡ true)
+      → pairwise r xs ≡ true
+  unfolding pairwise
+  at-pairwise r [] d h = refl
+  at-pairwise r (x ∷ xs) d h =
+      rw (all-at (r x) xs d (λ k m. h 0 (suc k) (omega arith) (omega arith))) (at-pairwise r xs d (λ i k m n. h (suc i) (suc k) (omega arith) (omega arith)))
+
+  pub pairwise-at : (r : A → A → Bool) (xs : List A) (d : A) → pairwise r xs ≡ true → (i k : ℕ) → i < k → k < length xs → r (getD xs i d) (getD xs k d) ≡ true
+  unfolding pairwise
+  pairwise-at r [] d e i k h l = absurd (omega arith)
+  pairwise-at r (x ∷ xs) d e zero zero h l = absurd (omega arith)
+  pairwise-at r (x ∷ xs) d e zero (suc k) h l = all-mem (r x) xs (and-left (all (r x) xs) (pairwise r xs) e) (getD xs k d) (mem-getD xs k d (omega arith))
+  pairwise-at r (x ∷ xs) d e (suc i) zero h l = absurd (omega arith)
+  pairwise-at r (x ∷ xs) d e (suc i) (suc k) h l = pairwise-at r xs d (and-right (all (r x) xs) (pairwise r xs) e) i k (omega arith) (omega arith)
+
+  -- a list taken apart at a member
+  pub record Apart (x : A) (xs : List A) : Type 0 where
+    pub front : List A
+    pub rest : List A
+    pub whole : xs ≡ front ++ x ∷ rest
+
+  pub apart-at : (x : A) (xs : List A) → List·Memᴰ x xs → Apart x xs
+  apart-at x (y ∷ xs) (List·Memᴰ·head q) = record { front = []; rest = xs; whole = rw q }
+  apart-at x (y ∷ xs) (List·Memᴰ·tail m) =
+      let k : Apart x xs = apart-at x xs m in
+      record { front = y ∷ k .front; rest = k .rest; whole = ap (λ (l : List A). y ∷ l) (k .whole) }
+
+  -- what a function gives along numbers in a row
+  pub getD-upFrom : (h : ℕ → A) (u n i : ℕ) (d : A) → i < n → getD (map h (upFrom u n)) i d ≡ h (u + i)
+  unfolding upFrom
+  getD-upFrom h u zero i d l = absurd (omega arith)
+  getD-upFrom h u (suc n) zero d l = ap h (omega arith)
+  getD-upFrom h u (suc n) (suc i) d l = getD-upFrom h (suc u) n i d (omega arith) ∙ ap h (omega arith)
+
+-- numbers in a row
+pub length-upFrom : (u n : ℕ) → length (upFrom u n) ≡ n
+unfolding upFrom
+length-upFrom u zero = refl
+length-upFrom u (suc n) = ap suc (length-upFrom (suc u) n)
+
+pub upFrom-mem : (u n v : ℕ) → u ≤ v → v < u + n → List·Memᴰ v (upFrom u n)
+unfolding upFrom
+upFrom-mem u zero v l h = absurd (omega arith)
+upFrom-mem u (suc n) v l h = go (ℕ-discrete v u) (upFrom-mem (suc u) n v)
+  where
+    go : Dec (v ≡ u) → (suc u ≤ v → v < suc u + n → List·Memᴰ v (upFrom (suc u) n)) → List·Memᴰ v (u ∷ upFrom (suc u) n)
+    go (yes e) below = List·Memᴰ·head e
+    go (no e) below = List·Memᴰ·tail (below (omega arith) (omega arith))
+
+pub mem-upFrom : (u n v : ℕ) → List·Memᴰ v (upFrom u n) → (u ≤ v) × (v < u + n)
+unfolding upFrom
+mem-upFrom u zero v m = absurd (List·Memᴰ·not-nil m)
+mem-upFrom u (suc n) v (List·Memᴰ·head e) = (omega arith, omega arith)
+mem-upFrom u (suc n) v (List·Memᴰ·tail m) = let h : (suc u ≤ v) × (v < suc u + n) = mem-upFrom (suc u) n v m in (omega arith, omega arith)

@@ -1,0 +1,135 @@
+-- A contact that can be turned, in the text's words; in a held plan its turned labelling keeps tests 4 to 6, and turned again at once gives back the job.
+-- Assumes nothing.
+use Prim.Native.Nat.{ℕ, _≤_}
+use mathlib.Core.Path.{_≡_, refl, sym, _∙_}
+use mathlib.Core.Logic.{_⊎_, inl, inr}
+use mathlib.Core.Bool.{Bool, true, false, _&&_, _||_}
+use mathlib.Core.List.{_∷_, _++_, List·Memᴰ}
+use lib.ListN.{length}
+use lib.Dec.{leb, eqb}
+use native.Mathlib.Omega.{arith}
+use borrow.Author.Tests.{eqb-true, leb-true, eq-eqb, ne-eqb}
+use Rattle.floor.specs.Lists.{isLast}
+use Rattle.floor.specs.Lists.Laws.{no-false, or-cases, and-parts, Apart, apart-at}
+use Rattle.floor.specs.Jobs.{Star, Job, Room, opposite, isRoom, starOf, names, kindOf, listOf}
+use Rattle.floor.specs.Jobs.Stars.{entry, ofKind, GoodStar, kindOf-mem}
+use Rattle.floor.specs.Jobs.Facts.{Passes, is-room}
+use Rattle.floor.specs.Plans.{Plan, held, drawn}
+use Rattle.floor.specs.Plans.Held.{past-held}
+use Rattle.floor.specs.Floor.{GoodPlan}
+use Rattle.floor.specs.Turns.{turned, turnAt, turnFrom, inContact, turn}
+use Rattle.floor.specs.Turns.Swing.{AtEnd, swing, length-listOf, last-mid, named-back}
+use Rattle.floor.specs.Turns.Turned.{Turn, turn-again, Kept, turn-keeps}
+use Rattle.floor.specs.Turns.Ends.{each-kind, opposite-small, at-ends}
+
+-- A CONTACT THAT CAN BE TURNED: of the two rooms b lies above a (m is 0) or to its right (m is 3), and either list has at least two
+pub record Turnable (j : Job) (u v : ℕ) : Type 0 where
+  pub a : ℕ
+  pub b : ℕ
+  pub m : ℕ
+  pub who : ((a ≡ u) × (b ≡ v)) ⊎ ((a ≡ v) × (b ≡ u))
+  pub above-or-right : (m ≡ 0) ⊎ (m ≡ 3)
+  pub room-a : Room j a
+  pub room-b : Room j b
+  pub contact : List·Memᴰ (entry b m) (starOf j a)
+  pub many-a : 2 ≤ length (listOf (starOf j a) m)
+  pub many-b : 2 ≤ length (listOf (starOf j b) (opposite m))
+
+-- the job turned there
+abbrev pub turnedBy : {j : Job} {u v : ℕ} → Turnable j u v → Job
+turnedBy {j} {u} {v} t = turned j (t .a) (t .b) (t .m)
+
+turnAt-held : (j : Job) (a b m : ℕ) {i : Job} {q : Plan} → turnAt j a b m ≡ held i q
+    → (2 ≤ length (listOf (starOf j a) m)) × (2 ≤ length (listOf (starOf j b) (opposite m))) × (drawn (turned j a b m) ≡ held i q)
+unfolding turnAt
+turnAt-held j a b m h =
+    let (t, d) = past-held (leb 2 (length (listOf (starOf j a) m)) && leb 2 (length (listOf (starOf j b) (opposite m)))) 12 _ h in
+    let (x, y) = and-parts _ _ t in
+    (leb-true 2 (length (listOf (starOf j a) m)) x, leb-true 2 (length (listOf (starOf j b) (opposite m))) y, d)
+
+-- kinds 1 and 2 are asked for from the other side
+from-other : (k : ℕ) → k ≤ 3 → (eqb k 0 || eqb k 3) ≡ false → (opposite k ≡ 0) ⊎ (opposite k ≡ 3)
+unfolding opposite
+from-other =
+    each-kind (λ k. (eqb k 0 || eqb k 3) ≡ false → (opposite k ≡ 0) ⊎ (opposite k ≡ 3)) (λ e. no-false (sym e)) (λ e. inr refl) (λ e. inl refl)
+    (λ e. no-false (sym e))
+
+-- A TURN THAT HOLDS was of such a contact, and its turned job was drawn
+pub asked : (j : Job) (u v : ℕ) (i : Job) (q : Plan) → Passes j → turn j u v ≡ held i q → (t : Turnable j u v) × (drawn (turnedBy t) ≡ held i q)
+unfolding turn turnFrom inContact
+asked j u v i q ok h =
+    let (c, d) = past-held (isRoom j u && isRoom j v && names (starOf j u) v) 11 _ h in
+    let (xy, n) = and-parts _ _ c in
+    let (x, y) = and-parts _ _ xy in
+    go (eqb (kindOf (starOf j u) v) 0 || eqb (kindOf (starOf j u) v) 3) refl (is-room j u x) (is-room j v y) (kindOf-mem (starOf j u) v n) d
+  where
+    k : ℕ
+    k = kindOf (starOf j u) v
+
+    either : (eqb k 0 ≡ true) ⊎ (eqb k 3 ≡ true) → (k ≡ 0) ⊎ (k ≡ 3)
+    either (inl e) = inl (eqb-true k 0 e)
+    either (inr e) = inr (eqb-true k 3 e)
+
+    contact-of : (a b m : ℕ) → ((a ≡ u) × (b ≡ v)) ⊎ ((a ≡ v) × (b ≡ u)) → (m ≡ 0) ⊎ (m ≡ 3) → Room j a → Room j b → List·Memᴰ (entry b m) (starOf j a)
+        → turnAt j a b m ≡ held i q → (t : Turnable j u v) × (drawn (turnedBy t) ≡ held i q)
+    contact-of a b m who up ra rb c g =
+        let (x, y, z) = turnAt-held j a b m g in
+        (record { a = a; b = b; m = m; who = who; above-or-right = up; room-a = ra; room-b = rb; contact = c; many-a = x; many-b = y }, z)
+
+    go : (c : Bool) → (eqb k 0 || eqb k 3) ≡ c → Room j u → Room j v → List·Memᴰ (entry v k) (starOf j u) → turnFrom c j u v k ≡ held i q
+        → (t : Turnable j u v) × (drawn (turnedBy t) ≡ held i q)
+    go true e ru rv m g = contact-of u v k (inl (refl, refl)) (either (or-cases (eqb k 0) (eqb k 3) e)) ru rv m g
+    go false e ru rv m g =
+        contact-of v u (opposite k) (inr (refl, refl)) (from-other k (ok .entries u ru (entry v k) m .small) e) rv ru
+        (ok .opposed u ru (entry v k) m (rv .0)) g
+
+-- A CONTACT OF A GOOD PLAN with at least two on both lists turns so
+turn-of : (j : Job) (ok : Passes j) (p : Plan) (gp : GoodPlan j p) (a b m : ℕ) → Room j a → Room j b → List·Memᴰ (entry b m) (starOf j a)
+    → 2 ≤ ofKind m (starOf j a) → 2 ≤ ofKind (opposite m) (starOf j b) → Turn j a b m
+turn-of j ok p gp a b m ra rb i ha hb = go (A .front) (A .rest) (B .front) (B .rest) (A .whole) (B .whole)
+  where
+    small : m ≤ 3
+    small = ok .entries a ra (entry b m) i .small
+
+    A : Apart (entry b m) (starOf j a)
+    A = apart-at (entry b m) (starOf j a) i
+
+    B : Apart (entry a (opposite m)) (starOf j b)
+    B = apart-at (entry a (opposite m)) (starOf j b) (ok .opposed a ra (entry b m) i (rb .0))
+
+    last-is : (l : Bool) (P Q : Star) → GoodStar (P ++ entry b m ∷ Q) → AtEnd l P Q m → isLast b (listOf (P ++ entry b m ∷ Q) m) ≡ l
+    last-is true P Q g e = last-mid P b m Q (named-back P Q b m g) ∙ eq-eqb (ofKind m Q) 0 (e .0)
+    last-is false P Q g e = last-mid P b m Q (named-back P Q b m g) ∙ ne-eqb (ofKind m Q) 0 (λ z. omega (arith, e .1))
+
+    go : (P Q P′ Q′ : Star) → starOf j a ≡ P ++ entry b m ∷ Q → starOf j b ≡ P′ ++ entry a (opposite m) ∷ Q′ → Turn j a b m
+    go P Q P′ Q′ s s′ =
+        let (l, x, y) = at-ends j ok p gp a b m ra rb small P Q P′ Q′ s s′ ha hb in
+        record {
+          last = l;
+          room-a = ra;
+          room-b = rb;
+          differ = λ e. ok .entries a ra (entry b m) i .other (sym e);
+          small = small;
+          swing-a = rw s (swing l P Q b m small (rw s at (ok .good a ra)) x);
+          swing-b = rw s′ (swing l P′ Q′ a (opposite m) (opposite-small m small) (rw s′ at (ok .good b rb)) y);
+          is-last = rw s (last-is l P Q (rw s at (ok .good a ra)) x);
+        }
+
+module _ (j : Job) (ok : Passes j) (p : Plan) (gp : GoodPlan j p) where
+  turn-at : {u v : ℕ} (t : Turnable j u v) → Turn j (t .a) (t .b) (t .m)
+  turn-at t =
+      turn-of j ok p gp (t .a) (t .b) (t .m) (t .room-a) (t .room-b) (t .contact) (rw (length-listOf (starOf j (t .a)) (t .m)) at (t .many-a))
+      (rw (length-listOf (starOf j (t .b)) (opposite (t .m))) at (t .many-b))
+
+  -- THE TURNED LABELLING, drawn or not, keeps tests 4 to 6, rooms, pairs, and who is joined
+  pub turned-keeps : {u v : ℕ} (t : Turnable j u v) → Kept j (turnedBy t)
+  turned-keeps t = turn-keeps j (t .a) (t .b) (t .m) (turn-at t) ok
+
+  -- TURNED AGAIN AT ONCE, whichever of the two numbers is named first: the job, drawn again
+  pub turned-restores : {u v : ℕ} (t : Turnable j u v) → (turn (turnedBy t) u v ≡ drawn j) × (turn (turnedBy t) v u ≡ drawn j)
+  turned-restores {u} {v} t = go (t .a) (t .b) (t .who) (turn-again j (t .a) (t .b) (t .m) (turn-at t))
+    where
+      go : (a b : ℕ) → ((a ≡ u) × (b ≡ v)) ⊎ ((a ≡ v) × (b ≡ u)) → (turn (turnedBy t) a b ≡ drawn j) × (turn (turnedBy t) b a ≡ drawn j)
+          → (turn (turnedBy t) u v ≡ drawn j) × (turn (turnedBy t) v u ≡ drawn j)
+      go a b (inl (x, y)) s = (rw (← x, ← y) (s .0), rw (← x, ← y) (s .1))
+      go a b (inr (x, y)) s = (rw (← x, ← y) (s .1), rw (← x, ← y) (s .0))
