@@ -1,12 +1,17 @@
 -- What follows from the promises. Assumes nothing.
-use Prim.Native.Nat.{ℕ}
+use Prim.Native.Nat.{ℕ, _≤_}
 use mathlib.Core.Path.{_≡_, refl, sym, _∙_}
 use mathlib.Core.Bool.{Bool, true, false}
-use mathlib.Core.List.{List}
+use mathlib.Core.List.{List, _++_}
 use native.Mathlib.Omega.{arith}
+use borrow.Author.Tests.{le-leb}
+use lib.ListN.{length, drop}
+use Rattle.floor.specs.Fields.{Bytes}
 use Rattle.floor.specs.Jobs.{Job, Reading, fails, reads, readJob, rawStar, test3, test4, test5, test6}
+use Rattle.floor.specs.Jobs.{writeJob}
+use Rattle.floor.specs.Jobs.Written.{write-read-job}
 use Rattle.floor.specs.Plans.{past, drawn}
-use Rattle.floor.specs.Calls.{Reply, loadRead, load}
+use Rattle.floor.specs.Calls.{Reply, loadRead, load, writes, wrote}
 use Rattle.fields.proofs.Corollaries.{one-answer}
 use Rattle.stars.specs.declared.Stars.{Stars}
 use Rattle.stars.specs.Held.{jobOf}
@@ -90,3 +95,15 @@ passed-six (reads j) i e =
 pub held-is-read : (bs : List ℕ) (r : Read) → Tells r (firstSix (readJob bs)) → r .answer ≡ Passed → readJob bs ≡ reads (jobOf (r .stars))
 unfolding outcome said
 held-is-read bs r t p = passed-six (readJob bs) (jobOf (r .stars)) (sym (t .says) ∙ rw p)
+
+-- READ, THEN WRITTEN: THE SAME BYTES
+pub read-written : (bs : List ℕ) (r : Read) → Bytes bs → Tells r (firstSix (readJob bs)) → r .answer ≡ Passed → writeJob (jobOf (r .stars)) ≡ bs
+read-written bs r b t p = write-read-job bs (jobOf (r .stars)) b (held-is-read bs r t p)
+
+-- and they stand at the front of any buffer that is long enough, with what was behind them
+pub read-written-front : (bs o : List ℕ) (r : Read) → Bytes bs → Tells r (firstSix (readJob bs)) → r .answer ≡ Passed → length bs ≤ length o
+    → (writing (jobOf (r .stars)) o .reply ≡ wrote (length bs)) × (writing (jobOf (r .stars)) o .buffer ≡ bs ++ drop (length bs) o)
+unfolding writing writes
+read-written-front bs o r b t p h =
+    let e = read-written bs r b t p in
+    (rw (e, le-leb (length bs) (length o) h), rw (e, le-leb (length bs) (length o) h))

@@ -8,13 +8,13 @@ use borrow.Author.Tests.{le-leb, lt-leb, leb-true, not-true, not-false}
 use lib.Dec.{leb}
 use lib.ListN.{length, drop}
 use Rattle.floor.specs.Lists.{all}
+use Rattle.floor.specs.Lists.Laws.{and-right}
 use Rattle.floor.specs.Fields.{readField, valueOf, restOf, afterFields}
 use Rattle.floor.specs.Jobs.{Job, isVertex, isRoom, pairsIn, starOk, test2, test3, test4, test5, test6}
 use Rattle.floor.specs.Jobs.{Reading, fails, reads, readJob, rawFrom, rawStar}
 use Rattle.stars.specs.declared.Stars.{Stars}
 use Rattle.stars.specs.Rooms.{allFrom}
 use Rattle.stars.specs.Held.{jobOf, noStars, heldOf}
-use Rattle.stars.proofs.Tables.{and-right}
 use Rattle.stars.proofs.EveryRoom.{test4-stars}
 use Rattle.stars.proofs.Back.{job-back}
 use Rattle.jobs.specs.declared.Shape.{Shape}

@@ -9,7 +9,8 @@ use lib.Dec.{leb}
 use lib.ListN.{length, getD, set, length-append}
 use lib.Seq.{sets, sets-eq}
 use Rattle.floor.specs.Fields.{writeField}
-use Rattle.floor.specs.Jobs.{Star, starBytes, writeStars, writeJob}
+use Rattle.floor.specs.Jobs.{starBytes, writeStars, writeJob}
+use Rattle.floor.specs.Jobs.Written.{length-starBytes}
 use Rattle.floor.specs.Calls.{refuse, writes}
 use Rattle.fields.specs.Found.{withHead}
 use Rattle.stars.specs.declared.Stars.{Stars}
@@ -42,11 +43,6 @@ unfolding cells
 length-cells zero k nbr kind = refl
 length-cells (suc m) k nbr kind = ap suc (length-cells m (suc k) nbr kind)
 
-pub length-bytes : (s : Star) → length (starBytes s) ≡ 2 * length s
-unfolding starBytes
-length-bytes [] = refl
-length-bytes (e ∷ s) = omega (arith, length-bytes s)
-
 sets-append : (l : List ℕ) (i : ℕ) (xs ys : List ℕ) → sets l i (xs ++ ys) ≡ sets (sets l i xs) (i + length xs) ys
 sets-append l i [] ys = let e : i + 0 ≡ i = omega arith in rw e
 sets-append l i (x ∷ xs) ys =
@@ -64,7 +60,7 @@ module _ (ends nbr kind : List ℕ) (i : ℕ) where
 
   pub length-field : (m : ℕ) → m ≡ many → length (starField ends nbr kind i) ≡ 3 + 2 * m
   unfolding starField writeField heldStar
-  length-field m e = omega (arith, length-bytes (cells many begin nbr kind), length-cells many begin nbr kind)
+  length-field m e = omega (arith, length-starBytes (cells many begin nbr kind), length-cells many begin nbr kind)
 
   pub field-room : (at m l k : ℕ) → m ≡ many → k ≡ l → at + length (starField ends nbr kind i) ≤ l → at + 3 + 2 * m ≤ k
   field-room at m l k e q h = omega (arith, length-field m e)
@@ -76,7 +72,7 @@ module _ (ends nbr kind : List ℕ) (i : ℕ) where
       → x ≡ sets h (at + 3) (starBytes (cells m from nbr kind)) → x ≡ sets o at (starField ends nbr kind i)
   unfolding starField writeField heldStar withHead
   field-put o h x at from m em ef room eh ex =
-      let l : length (starBytes (cells m from nbr kind)) ≡ 2 * m = omega (arith, length-bytes (cells m from nbr kind), length-cells m from nbr kind) in
+      let l : length (starBytes (cells m from nbr kind)) ≡ 2 * m = omega (arith, length-starBytes (cells m from nbr kind), length-cells m from nbr kind) in
       let r : at + 3 ≤ length o = omega (arith, length-field m em) in
       let e₃ : at + 3 ≡ suc (suc (suc at)) = omega arith in
       rw (← em, ← ef, l) (ex ∙ rw (eh, le-leb (at + 3) (length o) r, e₃))

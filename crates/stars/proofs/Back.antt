@@ -9,11 +9,11 @@ use lib.Dec.{leb, ltb, eqb}
 use lib.ListN.{length, getD, set, length-set, length-replicate}
 use lib.Seq.{sets, length-sets, getD-set-same, getD-set-other}
 use Rattle.floor.specs.Lists.{all, sum}
+use Rattle.floor.specs.Lists.Laws.{and-left, and-right}
 use Rattle.floor.specs.Jobs.{Entry, Star, Job, frameKind, pairsIn, entryOk, test4}
 use Rattle.stars.specs.declared.Stars.{Stars}
 use Rattle.stars.specs.Rooms.{allFrom}
 use Rattle.stars.specs.Held.{toAt, entryAt, cells, endOf, startOf, heldStar, starsIn, jobOf, noStars, toOf, kindOf, putStar, putAll, heldOf}
-use Rattle.stars.proofs.Tables.{and-left, and-right}
 use Rattle.stars.proofs.EveryRoom.{test4-stars}
 
 -- what stands below a place stays as it was

@@ -1,22 +1,15 @@
 -- The kinds' tables: one computed test over each, and the law that makes of it a rule at every entry. Assumes nothing.
 use Prim.Native.Nat.{ℕ, zero, suc, _+_, _<_, _≤_}
 use mathlib.Core.Path.{_≡_, refl, sym}
-use mathlib.Core.Bool.{Bool, true, false, _&&_}
+use mathlib.Core.Bool.{Bool, true}
 use mathlib.Core.List.{[], _∷_}
 use native.Mathlib.Omega.{arith}
 use borrow.Author.Tests.{eqb-true}
 use lib.Dec.{eqb}
 use lib.ListN.{getD, List·getD-eq-default}
 use Rattle.floor.specs.Lists.{all, upFrom}
+use Rattle.floor.specs.Lists.Laws.{and-left, and-right}
 use Rattle.floor.specs.Jobs.{opposite, frameKind}
-
-pub and-left : (a b : Bool) → a && b ≡ true → a ≡ true
-and-left true b h = refl
-and-left false b h = h
-
-pub and-right : (a b : Bool) → a && b ≡ true → b ≡ true
-and-right true b h = h
-and-right false b h = absurd (let z : _≡_ {A = ℕ} 0 1 = cc in omega arith)
 
 from : (p : ℕ → Bool) (i n : ℕ) → all p (upFrom i n) ≡ true → (k : ℕ) → k < n → p (i + k) ≡ true
 unfolding all upFrom
