@@ -1,0 +1,115 @@
+// The numbers of tests 1 to 6 on examples and at the limits, the star question, and a job written back.
+use jobs::Answer;
+use jobs::Written;
+
+// A name, and what reading the job answers.
+fn show(name: &[u8], job: &[u8]) {
+    io::write_all(1, name);
+    let read = jobs::read_job(job);
+    let answer = read.answer;
+    match answer {
+        Answer::Passed => {
+            io::write_all(1, b" passes\n");
+        }
+        Answer::Refused(k) => {
+            io::write_all(1, b" ");
+            io::print_decimal(1, k as u64);
+            io::write_all(1, b"\n");
+        }
+    }
+}
+
+// A name, and some bytes.
+fn show_bytes(name: &[u8], bytes: &[u8]) {
+    io::write_all(1, name);
+    let mut i: usize = 0;
+    while i < bytes.len() {
+        io::write_all(1, b" ");
+        let byte = fields::wide(bytes[i]);
+        io::print_decimal(1, byte as u64);
+        i += 1;
+    }
+    io::write_all(1, b"\n");
+}
+
+// One room whose star has 360 pairs, and one whose star has 361: the second alone fails test 3.
+fn show_limits() {
+    let mut job = [0u8; 729];
+    job[0] = 1;
+    job[2] = 1;
+    job[3] = 1;
+    job[4] = 2;
+    job[5] = 2;
+    job[6] = 208;
+    show(b"360 pairs", &job[..727]);
+    job[6] = 210;
+    show(b"361 pairs", &job);
+}
+
+// A job read, written into a buffer with a byte too many, and into one with a byte too few.
+fn show_written(job: &[u8]) {
+    let read = jobs::read_job(job);
+    let stars = read.stars;
+    let mut out = [9u8; 16];
+    let written = jobs::write_job(stars, &mut out);
+    match written {
+        Written::Wrote(length) => {
+            io::write_all(1, b"wrote ");
+            io::print_decimal(1, length as u64);
+            show_bytes(b":", &out);
+        }
+        Written::TooShort => {
+            io::write_all(1, b"too short\n");
+        }
+    }
+    let mut short = [9u8; 14];
+    let refused = jobs::write_job(stars, &mut short);
+    match refused {
+        Written::Wrote(_) => {
+            io::write_all(1, b"wrote\n");
+        }
+        Written::TooShort => {
+            show_bytes(b"14:", &short);
+        }
+    }
+}
+
+fn main() {
+    let one = b"\x01\x00\x01\x01\x02\x00\x08\x00\x00\x01\x01\x02\x02\x03\x03";
+    show(b"P1", one);
+    show(b"P2", b"\x01\x00\x01\x00");
+    show(b"P3", b"");
+    show(
+        b"P4",
+        b"\x01\x00\x01\x01\x02\x00\x08\x00\x00\x01\x01\x02\x02\x03\x03\x07",
+    );
+    show_limits();
+    show(b"61 rooms", b"\x01\x00\x01\x3d");
+    show(
+        b"odd star length",
+        b"\x01\x00\x01\x01\x02\x00\x07\x00\x00\x01\x01\x02\x02\x03",
+    );
+    show(
+        b"bytes left over",
+        b"\x01\x00\x01\x01\x02\x00\x08\x00\x00\x01\x01\x02\x02\x03\x03\x02\x00\x00",
+    );
+    show(
+        b"star cut off",
+        b"\x01\x00\x01\x01\x02\x00\x08\x00\x00\x01\x01\x02\x02\x03",
+    );
+    show(
+        b"kind 4",
+        b"\x01\x00\x01\x01\x02\x00\x08\x00\x00\x01\x01\x02\x02\x03\x04",
+    );
+    show(
+        b"no kind 3",
+        b"\x01\x00\x01\x01\x02\x00\x06\x00\x00\x01\x01\x02\x02",
+    );
+    show(
+        b"not answered",
+        b"\x01\x00\x01\x02\x02\x00\x08\x00\x00\x01\x01\x02\x02\x05\x03\x02\x00\x08\x00\x00\x01\x01\x02\x02\x03\x03",
+    );
+    show_bytes(b"star of room 4:", jobs::raw_star(one, 4));
+    show_bytes(b"star of room 5:", jobs::raw_star(one, 5));
+    show_written(one);
+}

@@ -1,0 +1,6 @@
+pub mod Walks
+pub mod Outlines
+pub mod Filling
+pub mod Testing
+pub mod Writing
+pub mod Corollaries

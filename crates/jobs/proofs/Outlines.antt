@@ -1,0 +1,205 @@
+-- The shape of a job's bytes, as the code comes by it. Assumes nothing.
+use Prim.Native.Nat.{ℕ, zero, suc, _+_, _-_, _/_, _%_, _<_, _≤_}
+use mathlib.Core.Path.{_≡_, refl, sym, _∙_}
+use mathlib.Core.Bool.{Bool, true, false, cond, _&&_}
+use mathlib.Core.Option.{Option, none, some}
+use mathlib.Core.List.{List, [], _∷_, map}
+use native.Mathlib.Omega.{arith}
+use borrow.Author.Tests.{le-leb, lt-leb, eq-eqb, ne-eqb}
+use lib.Dec.{eqb}
+use lib.ListN.{length, getD, take, drop, length-drop, drop-of-length-le}
+use lib.Seq.{drop-cons, length-take-le, getD-take, getD-drop}
+use Rattle.floor.specs.Lists.{sum}
+use Rattle.floor.specs.Fields.{Field, broken, field, readField, valueOf, restOf}
+use Rattle.floor.specs.Jobs.{Job, pairsIn, entries, starThen, readStars, test2, fails, reads, readRest, readRooms, readFirst, readJob}
+use Rattle.fields.specs.declared.Found.{Found}
+use Rattle.fields.specs.declared.Found.the-variants.{Broken, Whole}
+use Rattle.fields.specs.Found.{found, stands}
+use Rattle.fields.proofs.Laws.{no-field, the-field, starts, in-order, within}
+use Rattle.jobs.specs.declared.Count.{Count}
+use Rattle.jobs.specs.declared.Count.the-variants.{Unshaped, Pairs}
+use Rattle.jobs.specs.declared.Shape.the-variants.{Fails, Rooms}
+use Rattle.jobs.specs.Shapes.{counted, pairsPast, starsAt, reading, told}
+
+pub entries-length : (v : List ℕ) → length (entries v) ≡ length v / 2
+unfolding entries
+entries-length [] = refl
+entries-length (a ∷ []) = refl
+entries-length (a ∷ k ∷ r) = omega (arith, entries-length r)
+
+-- a field that is no star, and one that is
+star-bad : (t : ℕ) (v r : List ℕ) (x : Option Job) → (eqb t 2 && eqb (length v % 2) 0) ≡ false → starThen (field t v r) x ≡ none
+unfolding starThen
+star-bad t v r none h = refl
+star-bad t v r (some j) h = rw h
+
+star-good : (p t : ℕ) (v r : List ℕ) (x : Option Job) → (eqb t 2 && eqb (length v % 2) 0) ≡ true
+    → pairsPast p (starThen (field t v r) x) ≡ pairsPast (p + length v / 2) x
+unfolding starThen pairsPast pairsIn sum
+star-good p t v r none h = refl
+star-good p t v r (some j) h =
+    let e : p + (length (entries v) + sum (map (λ s. length s) j)) ≡ p + length v / 2 + sum (map (λ s. length s) j) = omega (arith, entries-length v) in
+    rw (h, e)
+
+-- no more pairs than bytes so far
+pub pairs-fit : (s : List ℕ) (at p : ℕ) (f : Found) (t a e : ℕ) → f ≡ Whole t a e → stands f at (length s) → p ≤ at → p + (e - a) / 2 ≤ e
+pairs-fit s at p f t a e here k h = omega (arith, starts s at f t a e here k, in-order s at f t a e here k)
+
+module _ (s : List ℕ) (n i at p : ℕ) (w : Option ℕ) where
+  -- the next field of a star
+  next : i < n → pairsPast p (readStars (n - i) (drop at s)) ≡ w
+      → pairsPast p (starThen (readField (drop at s)) (readStars (n - (i + 1)) (restOf (readField (drop at s))))) ≡ w
+  unfolding readStars
+  next h inv =
+      let d : n - i ≡ suc (n - (i + 1)) = omega arith in
+      rw d at inv
+
+  module _ (f : Found) where
+    pub count-broken : f ≡ Broken → found f s ≡ readField (drop at s) → i < n → pairsPast p (readStars (n - i) (drop at s)) ≡ w → counted Unshaped ≡ w
+    unfolding pairsPast starThen counted
+    count-broken b e h inv = rw (no-field s at f b e) at (next h inv)
+
+    module _ (t a e : ℕ) (here : f ≡ Whole t a e) (q : found f s ≡ readField (drop at s)) (k : stands f at (length s)) (h : i < n)
+        (inv : pairsPast p (readStars (n - i) (drop at s)) ≡ w) where
+      abbrev value : List ℕ
+      value = take (e - a) (drop a s)
+
+      value-length : length value ≡ e - a
+      value-length = length-take-le (e - a) (drop a s) (simp length-drop (omega (arith, within s at f t a e here k)))
+
+      known : pairsPast p (starThen (field t value (drop e s)) (readStars (n - (i + 1)) (drop e s))) ≡ w
+      unfolding restOf
+      known = rw (the-field s at f t a e here q) at (next h inv)
+
+      pub count-tag : (t ≡ 2 → ⊥) → counted Unshaped ≡ w
+      unfolding pairsPast counted
+      count-tag g =
+          let z : (eqb t 2 && eqb (length value % 2) 0) ≡ false = rw (ne-eqb t 2 g) in
+          rw (star-bad t value (drop e s) (readStars (n - (i + 1)) (drop e s)) z) at known
+
+      pub count-odd : t ≡ 2 → ((e - a) % 2 ≡ 0 → ⊥) → counted Unshaped ≡ w
+      unfolding pairsPast counted
+      count-odd g o =
+          let z : (eqb t 2 && eqb (length value % 2) 0) ≡ false = rw (eq-eqb t 2 g, value-length, ne-eqb ((e - a) % 2) 0 o) in
+          rw (star-bad t value (drop e s) (readStars (n - (i + 1)) (drop e s)) z) at known
+
+      pub count-next : t ≡ 2 → (e - a) % 2 ≡ 0 → pairsPast (p + (e - a) / 2) (readStars (n - (i + 1)) (drop e s)) ≡ w
+      count-next g o =
+          let z : (eqb t 2 && eqb (length value % 2) 0) ≡ true = rw (eq-eqb t 2 g, value-length, eq-eqb ((e - a) % 2) 0 o) in
+          rw (star-good p t value (drop e s) (readStars (n - (i + 1)) (drop e s)) z, value-length) at known
+
+  pub count-left : n ≤ i → at < length s → pairsPast p (readStars (n - i) (drop at s)) ≡ w → counted Unshaped ≡ w
+  unfolding pairsPast readStars counted
+  count-left h k inv =
+      let d : n - i ≡ 0 = omega arith in
+      rw (d, drop-cons s at 0 k) at inv
+
+  pub count-done : n ≤ i → length s ≤ at → pairsPast p (readStars (n - i) (drop at s)) ≡ w → counted (Pairs p) ≡ w
+  unfolding pairsPast readStars counted pairsIn sum
+  count-done h k inv =
+      let d : n - i ≡ 0 = omega arith in
+      let z : p + 0 ≡ p = omega arith in
+      rw (d, drop-of-length-le s k, z) at inv
+
+-- stars that are read are the stars as they stand
+picked : (b : Bool) (i j : Job) → cond b (some i) none ≡ some j → i ≡ j
+picked true i j e = cc
+picked false i j e = absurd (let z : _≡_ {A = ℕ} 0 1 = cc in omega arith)
+
+star-some : (f : Field) (x : Option Job) (j k : Job) → starThen f x ≡ some j → ((i : Job) → x ≡ some i → k ≡ i) → entries (valueOf f) ∷ k ≡ j
+unfolding starThen valueOf
+star-some broken x j k e h = absurd (let z : _≡_ {A = ℕ} 0 1 = cc in omega arith)
+star-some (field t v r) none j k e h = absurd (let z : _≡_ {A = ℕ} 0 1 = cc in omega arith)
+star-some (field t v r) (some i) j k e h = rw (h i refl) (picked (eqb t 2 && eqb (length v % 2) 0) (entries v ∷ i) j e)
+
+same-stars : (n : ℕ) (bs : List ℕ) (j : Job) → readStars n bs ≡ some j → starsAt n bs ≡ j
+unfolding readStars starsAt
+same-stars zero [] j e = cc
+same-stars zero (b ∷ bs) j e = absurd (let z : _≡_ {A = ℕ} 0 1 = cc in omega arith)
+same-stars (suc n) bs j e =
+    star-some (readField bs) (readStars n (restOf (readField bs))) j (starsAt n (restOf (readField bs))) e (λ i q. same-stars n (restOf (readField bs)) i q)
+
+-- what a count says of the stars
+count-none : (x : Option Job) (c : Count) → c ≡ Unshaped → counted c ≡ pairsPast 0 x → readRest x ≡ fails 1
+unfolding counted pairsPast readRest
+count-none none c e q = refl
+count-none (some j) c e q = absurd (let z : _≡_ {A = ℕ} 0 1 = (let r : none ≡ some (0 + pairsIn j) = rw e at q in cc) in omega arith)
+
+count-some : (n : ℕ) (bs : List ℕ) (x : Option Job) (c : Count) (p : ℕ) → readStars n bs ≡ x → c ≡ Pairs p → counted c ≡ pairsPast 0 x
+    → (reads (starsAt n bs) ≡ readRest x) × (p ≡ pairsIn (starsAt n bs))
+unfolding counted pairsPast readRest
+count-some n bs none c p g e q = absurd (let z : _≡_ {A = ℕ} 0 1 = (let r : some p ≡ none = rw e at q in cc) in omega arith)
+count-some n bs (some j) c p g e q =
+    let r : some p ≡ some (0 + pairsIn j) = rw e at q in
+    let m : starsAt n bs ≡ j = same-stars n bs j g in
+    let k : p ≡ 0 + pairsIn j = cc in
+    (rw m, rw m (omega arith))
+
+-- the one byte of the first field lies within the bytes
+pub start-within : (s : List ℕ) (at : ℕ) (f : Found) (t a e : ℕ) → f ≡ Whole t a e → stands f at (length s) → e - a ≡ 1 → a < length s
+start-within s at f t a e here k l = omega (arith, within s at f t a e here k)
+
+-- the first field, and the number of rooms
+module _ (s : List ℕ) (f : Found) where
+  pub shape-broken : found f s ≡ readField (drop 0 s) → f ≡ Broken → (reading (Fails 1) s ≡ readJob s) × told (Fails 1) s
+  unfolding reading told readJob readFirst
+  shape-broken e b = (rw (no-field s 0 f b e), tt)
+
+  module _ (q : found f s ≡ readField (drop 0 s)) (k : stands f 0 (length s)) (t a e : ℕ) (here : f ≡ Whole t a e) where
+    abbrev first : List ℕ
+    first = take (e - a) (drop a s)
+
+    first-length : length first ≡ e - a
+    first-length = length-take-le (e - a) (drop a s) (simp length-drop (omega (arith, within s 0 f t a e here k)))
+
+    first-read : readJob s ≡ cond (eqb t 1 && eqb (e - a) 1) (readRooms (test2 (getD first 0 0)) (getD first 0 0) (drop e s)) (fails 1)
+    unfolding readJob readFirst
+    first-read = rw (the-field s 0 f t a e here q, first-length)
+
+    pub shape-tag : (t ≡ 1 → ⊥) → (reading (Fails 1) s ≡ readJob s) × told (Fails 1) s
+    unfolding reading told
+    shape-tag g = (rw (first-read, ne-eqb t 1 g), tt)
+
+    pub shape-long : t ≡ 1 → (e - a ≡ 1 → ⊥) → (reading (Fails 1) s ≡ readJob s) × told (Fails 1) s
+    unfolding reading told
+    shape-long g l = (rw (first-read, eq-eqb t 1 g, ne-eqb (e - a) 1 l), tt)
+
+    first-rooms : t ≡ 1 → e - a ≡ 1 → readJob s ≡ readRooms (test2 (getD s a 0)) (getD s a 0) (drop e s)
+    first-rooms g l =
+        let h : 0 < e - a = omega arith in
+        let z : a + 0 ≡ a = omega arith in
+        let d : getD first 0 0 ≡ getD s a 0 = getD-take (e - a) (drop a s) 0 0 h ∙ getD-drop a s 0 0 ∙ rw z in
+        rw (first-read, eq-eqb t 1 g, eq-eqb (e - a) 1 l, d)
+
+    pub shape-none : t ≡ 1 → e - a ≡ 1 → getD s a 0 ≡ 0 → (reading (Fails 2) s ≡ readJob s) × told (Fails 2) s
+    unfolding reading told readRooms test2
+    shape-none g l n = (rw (first-rooms g l, n), tt)
+
+    pub shape-many : t ≡ 1 → e - a ≡ 1 → 60 < getD s a 0 → (reading (Fails 2) s ≡ readJob s) × told (Fails 2) s
+    unfolding reading told readRooms test2
+    shape-many g l n =
+        let o : 1 ≤ getD s a 0 = omega arith in
+        (rw (first-rooms g l, le-leb 1 (getD s a 0) o, lt-leb (getD s a 0) 60 n), tt)
+
+    module _ (g : t ≡ 1) (l : e - a ≡ 1) (o : getD s a 0 ≡ 0 → ⊥) (m : getD s a 0 ≤ 60) where
+      right : test2 (getD s a 0) ≡ true
+      unfolding test2
+      right =
+          let p : 1 ≤ getD s a 0 = omega arith in
+          rw (le-leb 1 (getD s a 0) p, le-leb (getD s a 0) 60 m)
+
+      rest-read : readJob s ≡ readRest (readStars (getD s a 0) (drop e s))
+      unfolding readRooms
+      rest-read = rw (first-rooms g l, right)
+
+      pub shape-left : (c : Count) → counted c ≡ pairsPast 0 (readStars (getD s a 0) (drop e s)) → c ≡ Unshaped
+          → (reading (Fails 1) s ≡ readJob s) × told (Fails 1) s
+      unfolding reading told
+      shape-left c r u = (sym (rest-read ∙ count-none (readStars (getD s a 0) (drop e s)) c u r), tt)
+
+      pub shape-whole : (c : Count) (p : ℕ) → counted c ≡ pairsPast 0 (readStars (getD s a 0) (drop e s)) → c ≡ Pairs p
+          → (reading (Rooms (getD s a 0) e p) s ≡ readJob s) × told (Rooms (getD s a 0) e p) s
+      unfolding reading told
+      shape-whole c p r u =
+          let x = count-some (getD s a 0) (drop e s) (readStars (getD s a 0) (drop e s)) c p refl u r in
+          (x .0 ∙ sym rest-read, (right, x .1))

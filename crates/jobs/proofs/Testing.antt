@@ -1,0 +1,130 @@
+-- Tests 3 to 6 and the star question, as the code comes by them. Assumes nothing.
+use Prim.Native.Nat.{ℕ, zero, suc, _+_, _-_, _<_, _≤_}
+use mathlib.Core.Path.{_≡_, refl, sym, _∙_, ap}
+use mathlib.Core.Bool.{Bool, true, false, cond, not, _&&_}
+use mathlib.Core.List.{List, []}
+use native.Mathlib.Omega.{arith}
+use borrow.Author.Tests.{le-leb, lt-leb, leb-true, not-true, not-false}
+use lib.Dec.{leb}
+use lib.ListN.{length, drop}
+use Rattle.floor.specs.Lists.{all}
+use Rattle.floor.specs.Lists.Laws.{and-right}
+use Rattle.floor.specs.Fields.{readField, valueOf, restOf, afterFields}
+use Rattle.floor.specs.Jobs.{Job, isVertex, isRoom, pairsIn, starOk, test2, test3, test4, test5, test6}
+use Rattle.floor.specs.Jobs.{Reading, fails, reads, readJob, rawFrom, rawStar}
+use Rattle.stars.specs.declared.Stars.{Stars}
+use Rattle.stars.specs.Rooms.{allFrom}
+use Rattle.stars.specs.Held.{jobOf, noStars, heldOf}
+use Rattle.stars.proofs.EveryRoom.{test4-stars}
+use Rattle.stars.proofs.Back.{job-back}
+use Rattle.jobs.specs.declared.Shape.{Shape}
+use Rattle.jobs.specs.declared.Shape.the-variants.{Fails, Rooms}
+use Rattle.jobs.specs.declared.Answer.the-variants.{Passed, Refused}
+use Rattle.jobs.specs.declared.Read.{Read}
+use Rattle.jobs.specs.Shapes.{starsAt, entriesOk, reading, told}
+use Rattle.jobs.specs.Reads.{said, outcome, kept, passing, firstSix, Tells}
+
+pub refuses : (k : ℕ) (h : Stars) → h ≡ noStars → Tells (record { answer = Refused k; stars = h }) (fails k)
+unfolding outcome said kept
+refuses k h e = record { says = refl; keeps = e }
+
+pub stars-length : (n : ℕ) (bs : List ℕ) → length (starsAt n bs) ≡ n
+unfolding starsAt
+stars-length zero bs = refl
+stars-length (suc n) bs = ap suc (stars-length n (restOf (readField bs)))
+
+module _ (s : List ℕ) (n at : ℕ) where
+  abbrev job : Job
+  job = starsAt n (drop at s)
+
+  pub test4-walked : (r : Bool) → r ≡ allFrom (entriesOk n) 4 job → r ≡ test4 job
+  unfolding entriesOk
+  test4-walked r e = e ∙ sym (test4-stars job ∙ rw (stars-length n (drop at s)))
+
+  pub test5-walked : (r : Bool) → r ≡ all starOk job → r ≡ test5 job
+  unfolding test5
+  test5-walked r e = e
+
+  six : Bool → Bool → Bool → Bool → Reading
+  six a b c d = passing a 3 (passing b 4 (passing c 5 (passing d 6 (reads job))))
+
+  module _ (p : ℕ) (count : p ≡ pairsIn job) where
+    test3-no : 360 < p → test3 job ≡ false
+    unfolding test3
+    test3-no h = rw (← count, lt-leb p 360 h)
+
+    test3-yes : p ≤ 360 → test3 job ≡ true
+    unfolding test3
+    test3-yes h = rw (← count, le-leb p 360 h)
+
+    module _ (x : Read) where
+      pub tells-3 : Tells x (fails 3) → 360 < p → Tells x (firstSix (reads job))
+      unfolding firstSix passing
+      tells-3 e h = rw (test3-no h) e
+
+      module _ (a : Bool) (ea : a ≡ allFrom (entriesOk n) 4 job) (h : p ≤ 360) where
+        pub tells-4 : Tells x (fails 4) → not a ≡ true → Tells x (firstSix (reads job))
+        unfolding firstSix passing
+        tells-4 e na = rw (test3-yes h, ← test4-walked a ea, not-true a na) e
+
+        module _ (na : not a ≡ false) (b : Bool) (eb : b ≡ all starOk job) where
+          pub tells-5 : Tells x (fails 5) → not b ≡ true → Tells x (firstSix (reads job))
+          unfolding firstSix passing
+          tells-5 e nb = rw (test3-yes h, ← test4-walked a ea, not-false a na, ← test5-walked b eb, not-true b nb) e
+
+  module _ (p : ℕ) (few : n ≤ 60) (count : p ≡ pairsIn job) (h : p ≤ 360) (a b d : Bool) (ea : a ≡ allFrom (entriesOk n) 4 job) (na : not a ≡ false)
+      (eb : b ≡ all starOk job) (nb : not b ≡ false) (g : Stars) (eg : g ≡ heldOf job) (ed : d ≡ test6 (jobOf g)) where
+    same-job : jobOf g ≡ job
+    same-job = rw eg (job-back job (omega (arith, stars-length n (drop at s))) (omega arith) (sym (test4-walked a ea) ∙ not-false a na))
+
+    test6-held : d ≡ test6 job
+    test6-held = rw same-job at ed
+
+    pub tells-6 : (x : Read) → Tells x (fails 6) → not d ≡ true → Tells x (firstSix (reads job))
+    unfolding firstSix passing
+    tells-6 x e nd = rw (test3-yes p count h, ← test4-walked a ea, not-false a na, ← test5-walked b eb, not-false b nb, ← test6-held, not-true d nd) e
+
+    pub tells-job : not d ≡ false → Tells (record { answer = Passed; stars = g }) (firstSix (reads job))
+    unfolding firstSix passing outcome said kept
+    tells-job nd = rw (test3-yes p count h, ← test4-walked a ea, not-false a na, ← test5-walked b eb, not-false b nb, ← test6-held, not-false d nd)
+        (record { says = rw same-job; keeps = eg })
+
+-- what the shape tells
+module _ (s : List ℕ) (f : Shape) (x : Read) where
+  pub read-fails : (k : ℕ) → f ≡ Fails k → reading f s ≡ readJob s → Tells x (fails k) → Tells x (firstSix (readJob s))
+  unfolding reading firstSix
+  read-fails k e q t = rw (← q, e) t
+
+  pub read-tested : (n a p : ℕ) → f ≡ Rooms n a p → reading f s ≡ readJob s → Tells x (firstSix (reads (starsAt n (drop a s)))) → Tells x (firstSix (readJob s))
+  unfolding reading
+  read-tested n a p e q t = rw (← q, e) t
+
+module _ (s : List ℕ) (f : Shape) (n a p : ℕ) where
+  pub few-rooms : f ≡ Rooms n a p → told f s → n ≤ 60
+  unfolding told test2
+  few-rooms e t = leb-true n 60 (and-right (leb 1 n) (leb n 60) ((rw e at t) .0))
+
+  pub pairs-known : f ≡ Rooms n a p → told f s → p ≡ pairsIn (starsAt n (drop a s))
+  unfolding told
+  pairs-known e t = (rw e at t) .1
+
+-- the star question
+module _ (s : List ℕ) (f : Shape) (v : ℕ) where
+  pub raw-fails : (k : ℕ) → f ≡ Fails k → reading f s ≡ readJob s → [] ≡ rawStar s v
+  unfolding reading rawStar rawFrom
+  raw-fails k e q = rw (← q, e)
+
+  module _ (n a p : ℕ) (e : f ≡ Rooms n a p) (q : reading f s ≡ readJob s) where
+    raw-room : rawStar s v ≡ cond (leb 4 v && leb v (n + 3)) (valueOf (readField (afterFields (v - 3) s))) []
+    unfolding reading rawStar rawFrom isRoom isVertex
+    raw-room = rw (← q, e, stars-length n (drop a s))
+
+    pub raw-side : v < 4 → [] ≡ rawStar s v
+    raw-side h = rw (raw-room, lt-leb 4 v h)
+
+    pub raw-past : (m : ℕ) → 4 ≤ v → m ≡ n → m + 3 < v → [] ≡ rawStar s v
+    raw-past m g h l = rw (raw-room, le-leb 4 v g, ← h, lt-leb v (m + 3) l)
+
+    pub raw-value : (m at : ℕ) (r : List ℕ) → 4 ≤ v → m ≡ n → v ≤ m + 3 → drop at s ≡ afterFields (v - 3) s → r ≡ valueOf (readField (drop at s))
+        → r ≡ rawStar s v
+    raw-value m at r g h l d w = rw (raw-room, le-leb 4 v g, ← h, le-leb v (m + 3) l, ← d) w

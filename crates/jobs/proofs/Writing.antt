@@ -1,0 +1,161 @@
+-- The held stars, written field by field, as the code comes by them. Assumes nothing.
+use Prim.Native.Nat.{ℕ, zero, suc, _+_, _-_, _*_, _<_, _≤_}
+use mathlib.Core.Path.{_≡_, refl, sym, _∙_, ap}
+use mathlib.Core.Bool.{true, false}
+use mathlib.Core.List.{List, [], _∷_, _++_}
+use native.Mathlib.Omega.{arith}
+use borrow.Author.Tests.{le-leb, lt-leb}
+use lib.Dec.{leb}
+use lib.ListN.{length, getD, set, length-append}
+use lib.Seq.{sets, sets-eq}
+use Rattle.floor.specs.Fields.{writeField}
+use Rattle.floor.specs.Jobs.{starBytes, writeStars, writeJob}
+use Rattle.floor.specs.Jobs.Written.{length-starBytes}
+use Rattle.floor.specs.Calls.{refuse, writes}
+use Rattle.fields.specs.Found.{withHead}
+use Rattle.stars.specs.declared.Stars.{Stars}
+use Rattle.stars.specs.Held.{toAt, entryAt, cells, startOf, endOf, heldStar, starsIn, jobOf}
+use Rattle.stars.proofs.Holding.{length-stars, held-more, held-done}
+use Rattle.jobs.specs.declared.Written.the-variants.{Wrote, TooShort}
+use Rattle.jobs.specs.Writes.{starField, replied, writing}
+
+-- the entries of a part, put one by one: what is left to put, put, gives the whole
+module _ (o w nbr kind : List ℕ) (at from m i : ℕ) where
+  pub put-more : (x y : ℕ) → sets o (at + 2 * i) (starBytes (cells (m - i) (from + i) nbr kind)) ≡ w → i < m → x ≡ toAt nbr (from + i)
+      → y ≡ getD kind (from + i) 0
+      → sets (set (set o (at + 2 * i) x) (at + 2 * i + 1) y) (at + 2 * (i + 1)) (starBytes (cells (m - (i + 1)) (from + (i + 1)) nbr kind)) ≡ w
+  unfolding starBytes cells entryAt
+  put-more x y inv h ex ey =
+      let e₀ : m - i ≡ suc (m - (i + 1)) = omega arith in
+      let e₁ : from + (i + 1) ≡ suc (from + i) = omega arith in
+      let e₂ : at + 2 * i + 1 ≡ suc (at + 2 * i) = omega arith in
+      let e₃ : at + 2 * (i + 1) ≡ suc (suc (at + 2 * i)) = omega arith in
+      rw (e₁, e₂, e₃, ex, ey) (rw e₀ at inv)
+
+  pub put-done : sets o (at + 2 * i) (starBytes (cells (m - i) (from + i) nbr kind)) ≡ w → m ≤ i → o ≡ w
+  unfolding starBytes cells
+  put-done inv h =
+      let e : m - i ≡ 0 = omega arith in
+      rw e at inv
+
+pub length-cells : (m k : ℕ) (nbr kind : List ℕ) → length (cells m k nbr kind) ≡ m
+unfolding cells
+length-cells zero k nbr kind = refl
+length-cells (suc m) k nbr kind = ap suc (length-cells m (suc k) nbr kind)
+
+sets-append : (l : List ℕ) (i : ℕ) (xs ys : List ℕ) → sets l i (xs ++ ys) ≡ sets (sets l i xs) (i + length xs) ys
+sets-append l i [] ys = let e : i + 0 ≡ i = omega arith in rw e
+sets-append l i (x ∷ xs) ys =
+    let e : i + suc (length xs) ≡ suc i + length xs = omega arith in
+    rw e (sets-append (set l i x) (suc i) xs ys)
+
+-- the field of one star
+module _ (ends nbr kind : List ℕ) (i : ℕ) where
+  -- its start and how many entries it has
+  abbrev begin : ℕ
+  begin = startOf ends (length nbr) i
+
+  abbrev many : ℕ
+  many = endOf ends (length nbr) i - begin
+
+  pub length-field : (m : ℕ) → m ≡ many → length (starField ends nbr kind i) ≡ 3 + 2 * m
+  unfolding starField writeField heldStar
+  length-field m e = omega (arith, length-starBytes (cells many begin nbr kind), length-cells many begin nbr kind)
+
+  pub field-room : (at m l k : ℕ) → m ≡ many → k ≡ l → at + length (starField ends nbr kind i) ≤ l → at + 3 + 2 * m ≤ k
+  field-room at m l k e q h = omega (arith, length-field m e)
+
+  pub field-end : (at m : ℕ) → m ≡ many → at + 3 + 2 * m ≡ at + length (starField ends nbr kind i)
+  field-end at m e = omega (arith, length-field m e)
+
+  pub field-put : (o h x : List ℕ) (at from m : ℕ) → m ≡ many → from ≡ begin → at + length (starField ends nbr kind i) ≤ length o → h ≡ withHead o at 2 (2 * m)
+      → x ≡ sets h (at + 3) (starBytes (cells m from nbr kind)) → x ≡ sets o at (starField ends nbr kind i)
+  unfolding starField writeField heldStar withHead
+  field-put o h x at from m em ef room eh ex =
+      let l : length (starBytes (cells m from nbr kind)) ≡ 2 * m = omega (arith, length-starBytes (cells m from nbr kind), length-cells m from nbr kind) in
+      let r : at + 3 ≤ length o = omega (arith, length-field m em) in
+      let e₃ : at + 3 ≡ suc (suc (suc at)) = omega arith in
+      rw (← em, ← ef, l) (ex ∙ rw (eh, le-leb (at + 3) (length o) r, e₃))
+
+-- the stars, field by field
+module _ (ends nbr kind : List ℕ) (n i : ℕ) (h : i < n) where
+  next-field : writeStars (starsIn (n - i) i ends nbr kind) ≡ starField ends nbr kind i ++ writeStars (starsIn (n - (i + 1)) (i + 1) ends nbr kind)
+  unfolding writeStars starField
+  next-field = rw (held-more ends nbr kind n i h)
+
+  next-length : length (writeStars (starsIn (n - i) i ends nbr kind))
+      ≡ length (starField ends nbr kind i) + length (writeStars (starsIn (n - (i + 1)) (i + 1) ends nbr kind))
+  next-length = rw next-field (length-append (starField ends nbr kind i) (writeStars (starsIn (n - (i + 1)) (i + 1) ends nbr kind)))
+
+  pub room-field : (at l k : ℕ) → k ≡ l → at + length (writeStars (starsIn (n - i) i ends nbr kind)) ≤ l → at + length (starField ends nbr kind i) ≤ k
+  room-field at l k q r = omega (arith, next-length)
+
+  pub room-later : (at l y : ℕ) → y ≡ at + length (starField ends nbr kind i) → at + length (writeStars (starsIn (n - i) i ends nbr kind)) ≤ l
+      → y + length (writeStars (starsIn (n - (i + 1)) (i + 1) ends nbr kind)) ≤ l
+  room-later at l y e k = omega (arith, next-length)
+
+  pub stars-more : (o w x : List ℕ) (at y : ℕ) → x ≡ sets o at (starField ends nbr kind i) → y ≡ at + length (starField ends nbr kind i)
+      → sets o at (writeStars (starsIn (n - i) i ends nbr kind)) ≡ w → sets x y (writeStars (starsIn (n - (i + 1)) (i + 1) ends nbr kind)) ≡ w
+  stars-more o w x at y ex ey inv =
+      rw (ex, ey) (sym (sets-append o at (starField ends nbr kind i) (writeStars (starsIn (n - (i + 1)) (i + 1) ends nbr kind))) ∙ (rw next-field at inv))
+
+  pub total-more : (t l m : ℕ) → m ≡ endOf ends (length nbr) i - startOf ends (length nbr) i → t + length (writeStars (starsIn (n - i) i ends nbr kind)) ≡ l
+      → t + (3 + 2 * m) + length (writeStars (starsIn (n - (i + 1)) (i + 1) ends nbr kind)) ≡ l
+  total-more t l m e k = omega (arith, next-length, length-field ends nbr kind i m e)
+
+module _ (ends nbr kind : List ℕ) (n i : ℕ) (h : n ≤ i) where
+  no-field : writeStars (starsIn (n - i) i ends nbr kind) ≡ []
+  unfolding writeStars
+  no-field = rw (held-done ends nbr kind n i h)
+
+  pub stars-done : (o w : List ℕ) (at : ℕ) → sets o at (writeStars (starsIn (n - i) i ends nbr kind)) ≡ w → o ≡ w
+  stars-done o w at inv = rw no-field at inv
+
+  pub total-done : (t l : ℕ) → t + length (writeStars (starsIn (n - i) i ends nbr kind)) ≡ l → t ≡ l
+  total-done t l k = (omega arith) ∙ (rw no-field at k)
+
+-- the whole job
+module _ (h : Stars) where
+  pub job-stars : (n : ℕ) → n ≡ h .count → starsIn n 0 (h .ends) (h .nbr) (h .kind) ≡ jobOf h
+  unfolding jobOf
+  job-stars n e = rw e
+
+  job-count : length (jobOf h) ≡ h .count
+  unfolding jobOf
+  job-count = length-stars (h .count) 0 (h .ends) (h .nbr) (h .kind)
+
+  job-bytes : writeJob (jobOf h) ≡ 1 ∷ 0 ∷ 1 ∷ h .count ∷ writeStars (jobOf h)
+  unfolding writeJob writeField
+  job-bytes = rw job-count
+
+  pub length-job : length (writeJob (jobOf h)) ≡ 4 + length (writeStars (jobOf h))
+  length-job = rw job-bytes (omega arith)
+
+  pub total-first : (n : ℕ) → n ≡ h .count → 4 + length (writeStars (starsIn (n - 0) 0 (h .ends) (h .nbr) (h .kind))) ≡ length (writeJob (jobOf h))
+  total-first n e =
+      let z : n - 0 ≡ n = omega arith in
+      rw (z, job-stars n e) (sym length-job)
+
+  pub put-first : (o : List ℕ) (n at : ℕ) → n ≡ h .count → at + length (writeStars (jobOf h)) ≤ length o
+      → (length o ≡ length o) × (at + length (writeStars (starsIn (n - 0) 0 (h .ends) (h .nbr) (h .kind))) ≤ length o)
+      × (sets o at (writeStars (starsIn (n - 0) 0 (h .ends) (h .nbr) (h .kind))) ≡ sets o at (writeStars (jobOf h)))
+  put-first o n at e k =
+      let z : n - 0 ≡ n = omega arith in
+      (refl, rw (z, job-stars n e) k, rw (z, job-stars n e))
+
+  module _ (o : List ℕ) (l : ℕ) (e : l ≡ length (writeJob (jobOf h))) where
+    pub write-short : length o < l → (replied TooShort ≡ writing (jobOf h) o .reply) × (o ≡ writing (jobOf h) o .buffer)
+    unfolding replied writing writes refuse
+    write-short k =
+        let z : leb (length (writeJob (jobOf h))) (length o) ≡ false = lt-leb (length (writeJob (jobOf h))) (length o) (omega arith) in
+        (rw z, rw z)
+
+    pub write-done : (x y : List ℕ) → y ≡ withHead o 0 1 1 → x ≡ sets (set y 3 (h .count)) 4 (writeStars (jobOf h)) → l ≤ length o
+        → (replied (Wrote l) ≡ writing (jobOf h) o .reply) × (x ≡ writing (jobOf h) o .buffer)
+    unfolding replied writing writes withHead
+    write-done x y ey ex k =
+        let z : leb (length (writeJob (jobOf h))) (length o) ≡ true = le-leb (length (writeJob (jobOf h))) (length o) (omega arith) in
+        let r : 0 + 3 ≤ length o = omega (arith, length-job) in
+        let f : x ≡ sets o 0 (writeJob (jobOf h)) = ex ∙ rw (ey, le-leb (0 + 3) (length o) r, job-bytes) in
+        let d : 0 + length (writeJob (jobOf h)) ≡ length (writeJob (jobOf h)) = omega arith in
+        (rw (z, ← e), rw z (f ∙ sets-eq (writeJob (jobOf h)) o 0 (omega arith) ∙ rw d))

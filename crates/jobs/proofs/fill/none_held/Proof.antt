@@ -1,0 +1,11 @@
+use mathlib.Core.Path.{refl}
+use Rattle.stars.specs.Held.{noStars}
+use Rattle.jobs.proofs.fill.none_held.Statement.{statement}
+use Rattle.jobs.proofs.fill.none_held.Tie as tie
+
+returns : tie.Need-returns
+unfolding noStars
+returns c = refl
+
+pub none-held-spec : {M : Type 1} → statement M
+none-held-spec = tie.close (tie.spec returns)

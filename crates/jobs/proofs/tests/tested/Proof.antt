@@ -1,0 +1,61 @@
+use Rattle.jobs.proofs.Testing.{tells-3, tells-4, tells-5, tells-6, tells-job}
+use borrow.Author.Needs.{needs}
+use Rattle.jobs.proofs.tests.tested.Statement.{statement}
+use Rattle.jobs.proofs.tests.tested.Tie as tie
+
+refused-requires : tie.Need-refused-requires
+refused-requires c κs = search needs
+
+returns : tie.Need-returns
+returns c = search (tells-3, needs)
+
+entries-pass-requires : tie.Need-entries-pass-requires
+entries-pass-requires c κs = search needs
+
+refused-requires-2 : tie.Need-refused-requires-2
+refused-requires-2 c κs = search needs
+
+returns-2 : tie.Need-returns-2
+returns-2 c = search (tells-4, needs)
+
+stars-pass-requires : tie.Need-stars-pass-requires
+stars-pass-requires c κs = search needs
+
+refused-requires-3 : tie.Need-refused-requires-3
+refused-requires-3 c κs = search needs
+
+returns-3 : tie.Need-returns-3
+returns-3 c = search (tells-5, needs)
+
+hold-requires : tie.Need-hold-requires
+hold-requires c κs = search needs
+
+answered-requires : tie.Need-answered-requires
+answered-requires c κs = search needs
+
+refused-requires-4 : tie.Need-refused-requires-4
+refused-requires-4 c κs = search needs
+
+returns-4 : tie.Need-returns-4
+returns-4 c = search (tells-6, needs)
+
+returns-5 : tie.Need-returns-5
+returns-5 c = search (tells-job, needs)
+
+pub tested-spec : {M : Type 1} → statement M
+tested-spec =
+    tie.close
+    (tie.spec
+    refused-requires
+    returns
+    entries-pass-requires
+    refused-requires-2
+    returns-2
+    stars-pass-requires
+    refused-requires-3
+    returns-3
+    hold-requires
+    answered-requires
+    refused-requires-4
+    returns-4
+    returns-5)

@@ -1,0 +1,86 @@
+// Jobs from bytes: tests 1 to 6, the star question, and writing a job back.
+ghost use mathlib.Core.Path.{_≡_};
+ghost use Rattle.floor.specs.Jobs.{readJob, rawStar};
+ghost use Rattle.jobs.specs.Reads.{firstSix, Tells};
+ghost use Rattle.stars.specs.Held.{jobOf};
+ghost use Rattle.jobs.specs.Writes.{replied, writing};
+use stars::Stars;
+
+mod outline; // outline.rt: the first field, the number of rooms, and the remaining shape
+mod walk; // walk.rt: tests 4 and 5, star by star along the bytes
+mod fill; // fill.rt: the stars held
+mod tests; // tests.rt: tests 3 to 6 of a job of the right shape
+mod put; // put.rt: the held stars, written
+
+// How many pairs some stars have: no such stars stand there, or their number.
+pub enum Count {
+    Unshaped,
+    Pairs(usize),
+}
+
+// What the bytes of a job are by their shape: refused, or the number of rooms, where the first star's field starts, and how many pairs there are.
+pub enum Shape {
+    Fails(u8),
+    Rooms(u8, usize, usize),
+}
+
+// What reading a job answers: tests 1 to 6 are passed, or the number of the first that fails.
+pub enum Answer {
+    Passed,
+    Refused(u8),
+}
+
+// A job, read: the answer, and the stars, none of them where it is refused.
+pub struct Read {
+    pub answer: Answer,
+    pub stars: Stars,
+}
+
+// What writing a job answers: the length that was written, or that the buffer is too short.
+pub enum Written {
+    Wrote(usize),
+    TooShort,
+}
+
+// A job's bytes, read and put through tests 1 to 6.
+pub fn read_job(job: &[u8]) -> Read
+    ensures { λ r. ⌜ Tells r (firstSix (readJob (now (job .entry)))) ⌝ }
+{
+    let shape = outline::shape_of(job);
+    match shape {
+        Shape::Fails(k) => tests::refused(k),
+        Shape::Rooms(n, at, pairs) => tests::tested(job, n, at, pairs),
+    }
+}
+
+// The star question: the very bytes of a room's star; none where the bytes fail test 1 or 2 or the number is no room.
+pub fn raw_star(job: &[u8], room: usize) -> &[u8]
+    ensures { λ r. ⌜ now r ≡ rawStar (now (job .entry)) room ⌝ }
+{
+    let shape = outline::shape_of(job);
+    let Shape::Rooms(n, _, _) = shape else {
+        return &job[0..0];
+    };
+    if room < 4 {
+        return &job[0..0];
+    }
+    if fields::wide(n) + 3 < room {
+        return &job[0..0];
+    }
+    let at = walk::place_after(job, room - 3);
+    fields::value_at(job, at)
+}
+
+// The held job, written to the front of a lent buffer; nothing behind it is touched, and nothing at all where it is too short.
+pub fn write_job(stars: Stars, out: &mut [u8]) -> Written
+    ensures { λ r. ⌜ (replied r ≡ writing (jobOf stars) (now (out .entry)) .reply) × (now (out .exit) ≡ writing (jobOf stars) (now (out .entry)) .buffer) ⌝ }
+{
+    let length = put::job_length(stars);
+    if out.len() < length {
+        return Written::TooShort;
+    }
+    fields::put_head(out, 0, 1, 1);
+    out[3] = stars.count;
+    put::put_stars(out, stars, 4);
+    Written::Wrote(length)
+}

@@ -1,0 +1,85 @@
+// The held stars, written as fields into a lent buffer.
+ghost use mathlib.Core.Path.{_≡_};
+ghost use Prim.Native.Nat.{_+_, _-_, _*_, _≤_, _<_};
+ghost use lib.ListN.{length};
+ghost use lib.Seq.{sets};
+ghost use Rattle.floor.specs.Jobs.{starBytes, writeStars, writeJob};
+ghost use Rattle.stars.specs.Held.{cells, startOf, endOf, jobOf};
+ghost use Rattle.jobs.specs.Writes.{starField};
+use stars::Stars;
+
+// How many entries a star has.
+fn star_length<'a>(ends: &'a [u16], nbr: &'a [u16], i: usize) -> usize
+    ensures { λ r. ⌜ (r ≡ endOf (now (ends .entry)) (length (now (nbr .entry))) i - startOf (now (ends .entry)) (length (now (nbr .entry))) i)
+        × (startOf (now (ends .entry)) (length (now (nbr .entry))) i + r ≤ length (now (nbr .entry))) ⌝ }
+{
+    let start = stars::held::start_of(ends, nbr.len(), i);
+    let end = stars::held::end_of(ends, nbr.len(), i);
+    if end < start {
+        return 0;
+    }
+    end - start
+}
+
+// The m entries from a place on, written.
+fn put_pairs<'a>(out: &mut [u8], at: usize, nbr: &'a [u16], kind: &'a [u8], from: usize, m: usize)
+    requires { ⌜ (at + 2 * m ≤ length (now out)) × (from + m ≤ length (now nbr)) ⌝ }
+    ensures { λ _. ⌜ now (out .exit) ≡ sets (now (out .entry)) at (starBytes (cells m from (now (nbr .entry)) (now (kind .entry)))) ⌝ }
+{
+    let mut i: usize = 0;
+    while i < m {
+        let j = at + 2 * i;
+        let to = stars::held::to_at(nbr, from + i);
+        out[j] = to as u8;
+        out[j + 1] = stars::held::kind_at(kind, from + i);
+        i += 1;
+    }
+}
+
+// The field of a star, written; the place behind it is handed back.
+fn put_field<'a>(
+    out: &mut [u8],
+    at: usize,
+    ends: &'a [u16],
+    nbr: &'a [u16],
+    kind: &'a [u8],
+    i: usize,
+) -> usize
+    requires { ⌜ (length (now nbr) ≡ 360) × (at + length (starField (now ends) (now nbr) (now kind) i) ≤ length (now out)) ⌝ }
+    ensures { λ r. ⌜ (now (out .exit) ≡ sets (now (out .entry)) at (starField (now (ends .entry)) (now (nbr .entry)) (now (kind .entry)) i))
+        × (r ≡ at + length (starField (now (ends .entry)) (now (nbr .entry)) (now (kind .entry)) i)) ⌝ }
+{
+    let from = stars::held::start_of(ends, nbr.len(), i);
+    let m = star_length(ends, nbr, i);
+    fields::put_head(out, at, 2, (2 * m) as u16);
+    put_pairs(out, at + 3, nbr, kind, from, m);
+    at + 3 + 2 * m
+}
+
+// Every star's field, written from a place on.
+pub fn put_stars(out: &mut [u8], stars: Stars, from: usize)
+    requires { ⌜ from + length (writeStars (jobOf stars)) ≤ length (now out) ⌝ }
+    ensures { λ _. ⌜ now (out .exit) ≡ sets (now (out .entry)) from (writeStars (jobOf stars)) ⌝ }
+{
+    let count = fields::wide(stars.count);
+    let mut at = from;
+    let mut i: usize = 0;
+    while i < count {
+        at = put_field(out, at, &stars.ends, &stars.nbr, &stars.kind, i);
+        i += 1;
+    }
+}
+
+// How many bytes the job takes.
+pub fn job_length(stars: Stars) -> usize
+    ensures { λ r. ⌜ r ≡ length (writeJob (jobOf stars)) ⌝ }
+{
+    let count = fields::wide(stars.count);
+    let mut total: usize = 4;
+    let mut i: usize = 0;
+    while i < count {
+        total += 3 + 2 * star_length(&stars.ends, &stars.nbr, i);
+        i += 1;
+    }
+    total
+}

@@ -1,0 +1,44 @@
+// Tests 3 to 6 of a job whose bytes have the right shape, each over the entire job before the next.
+ghost use mathlib.Core.Path.{_≡_};
+ghost use Prim.Native.Nat.{_≤_};
+ghost use lib.ListN.{drop};
+ghost use Rattle.floor.specs.Jobs.{pairsIn, reads, fails};
+ghost use Rattle.jobs.specs.Shapes.{starsAt};
+ghost use Rattle.jobs.specs.Reads.{firstSix, Tells};
+use crate::Answer;
+use crate::Read;
+
+// Refused: the number, and no stars.
+pub fn refused(k: u8) -> Read
+    ensures { λ r. ⌜ Tells r (fails k) ⌝ }
+{
+    let stars = crate::fill::none_held();
+    Read {
+        answer: Answer::Refused(k),
+        stars,
+    }
+}
+
+// The n stars from a place on, put through tests 3 to 6; how many pairs they have is known.
+pub fn tested(job: &[u8], n: u8, at: usize, pairs: usize) -> Read
+    requires { ⌜ (n ≤ 60) × (pairs ≡ pairsIn (starsAt n (drop at (now job)))) ⌝ }
+    ensures { λ r. ⌜ Tells r (firstSix (reads (starsAt n (drop at (now (job .entry)))))) ⌝ }
+{
+    if 360 < pairs {
+        return refused(3);
+    }
+    if !crate::walk::entries_pass(job, at, n) {
+        return refused(4);
+    }
+    if !crate::walk::stars_pass(job, at, n) {
+        return refused(5);
+    }
+    let stars = crate::fill::hold(job, at, n);
+    if !stars::held::answered(stars) {
+        return refused(6);
+    }
+    Read {
+        answer: Answer::Passed,
+        stars,
+    }
+}

@@ -1,0 +1,194 @@
+-- The held stars, as the code comes by them. Assumes nothing.
+use Prim.Native.Nat.{ℕ, zero, suc, _+_, _-_, _%_, _<_, _≤_}
+use mathlib.Core.Path.{_≡_, refl, sym, _∙_, ap}
+use mathlib.Core.Bool.{Bool, true, false, not, _&&_}
+use mathlib.Core.List.{List, [], _∷_}
+use native.Mathlib.Omega.{arith}
+use borrow.Author.Tests.{le-leb, lt-leb, eq-eqb, ne-eqb, not-true, not-false}
+use lib.Dec.{eqb}
+use lib.ListN.{length, getD, List·getD-eq-default}
+use Rattle.floor.specs.Lists.{all, any}
+use Rattle.floor.specs.Jobs.{Star, Job, opposite, starOf, lists, test6}
+use Rattle.stars.specs.declared.Stars.{Stars}
+use Rattle.stars.specs.Rooms.{allFrom}
+use Rattle.stars.specs.Held.{toAt, entryAt, cells, endOf, startOf, heldStar, starsIn, jobOf, answers, starAnswers}
+use Rattle.stars.proofs.EveryRoom.{test6-stars}
+
+-- numbers past the end of an array
+pub past-end : (l : List ℕ) (k : ℕ) → length l ≤ k → 0 ≡ getD l k 0
+past-end l k h = sym (List·getD-eq-default l 0 h)
+
+pub to-past : (l : List ℕ) (k : ℕ) → length l ≤ k → (0 ≡ toAt l k) × (0 < 256)
+unfolding toAt
+to-past l k h = (rw (← past-end l k h), omega arith)
+
+pub to-here : (l : List ℕ) (k x : ℕ) → x ≡ getD l k 0 → (x % 256 ≡ toAt l k) × (x % 256 < 256)
+unfolding toAt
+to-here l k x e = (rw e, omega arith)
+
+module _ (l : List ℕ) (most i : ℕ) where
+  pub end-past : length l ≤ i → 0 ≡ endOf l most i
+  unfolding endOf
+  end-past h = rw (← past-end l i h) (omega arith)
+
+  pub end-most : (x : ℕ) → x ≡ getD l i 0 → most < x → most ≡ endOf l most i
+  unfolding endOf
+  end-most x e h = rw (← e) (omega arith)
+
+  pub end-here : (x : ℕ) → x ≡ getD l i 0 → x ≤ most → x ≡ endOf l most i
+  unfolding endOf
+  end-here x e h = rw (← e) (omega arith)
+
+  pub start-first : i ≡ 0 → 0 ≡ startOf l most i
+  unfolding startOf
+  start-first e = rw e
+
+  pub start-later : (x : ℕ) → (i ≡ 0 → ⊥) → x ≡ endOf l most (i - 1) → x ≡ startOf l most i
+  unfolding startOf
+  start-later x n p = let e : i ≡ suc (i - 1) = omega arith in rw e p
+
+-- the next entry of a part, and those behind it
+module _ (nbr kind : List ℕ) (end k : ℕ) where
+  pub cells-more : k < end → cells (end - k) k nbr kind ≡ entryAt nbr kind k ∷ cells (end - (k + 1)) (k + 1) nbr kind
+  unfolding cells
+  cells-more h =
+      let d : end - k ≡ suc (end - (k + 1)) = omega arith in
+      let s : k + 1 ≡ suc k = omega arith in
+      rw (d, s)
+
+  pub cells-done : end ≤ k → cells (end - k) k nbr kind ≡ []
+  unfolding cells
+  cells-done h =
+      let d : end - k ≡ 0 = omega arith in
+      rw d
+
+-- the next star, and those behind it
+module _ (ends nbr kind : List ℕ) (n i : ℕ) where
+  pub held-more : i < n → starsIn (n - i) i ends nbr kind ≡ heldStar ends nbr kind i ∷ starsIn (n - (i + 1)) (i + 1) ends nbr kind
+  unfolding starsIn
+  held-more h =
+      let d : n - i ≡ suc (n - (i + 1)) = omega arith in
+      let s : i + 1 ≡ suc i = omega arith in
+      rw (d, s)
+
+  pub held-done : n ≤ i → starsIn (n - i) i ends nbr kind ≡ []
+  unfolding starsIn
+  held-done h =
+      let d : n - i ≡ 0 = omega arith in
+      rw d
+
+-- some entry of a part
+module _ (nbr kind : List ℕ) (v want : ℕ) where
+  -- the test of one entry
+  abbrev listed : ℕ → Bool
+  listed k = eqb (toAt nbr k) v && eqb (getD kind k 0) want
+
+  pub lists-yes : (x y k : ℕ) → x ≡ toAt nbr k → x ≡ v → y ≡ getD kind k 0 → eqb y want ≡ listed k
+  lists-yes x y k e q f = rw (← e, ← f, eq-eqb x v q)
+
+  pub lists-no : (x k : ℕ) → x ≡ toAt nbr k → (x ≡ v → ⊥) → false ≡ listed k
+  lists-no x k e q = rw (← e, ne-eqb x v q)
+
+  module _ (w : Bool) (end k : ℕ) where
+    pub lists-here : (b : Bool) → b ≡ listed k → b ≡ true → k < end → lists (cells (end - k) k nbr kind) v want ≡ w → true ≡ w
+    unfolding lists any entryAt
+    lists-here b e t h inv = rw (cells-more nbr kind end k h, ← e, t) at inv
+
+    pub lists-next : (b : Bool) → b ≡ listed k → b ≡ false → k < end → lists (cells (end - k) k nbr kind) v want ≡ w
+        → lists (cells (end - (k + 1)) (k + 1) nbr kind) v want ≡ w
+    unfolding lists any entryAt
+    lists-next b e t h inv = rw (cells-more nbr kind end k h, ← e, t) at inv
+
+    pub lists-done : end ≤ k → lists (cells (end - k) k nbr kind) v want ≡ w → false ≡ w
+    unfolding lists any
+    lists-done h inv = rw (cells-done nbr kind end k h) at inv
+
+pub star-in : (m i k : ℕ) (ends nbr kind : List ℕ) → k < m → getD (starsIn m i ends nbr kind) k [] ≡ heldStar ends nbr kind (i + k)
+unfolding starsIn
+star-in zero i k ends nbr kind h = absurd (omega arith)
+star-in (suc m) i zero ends nbr kind h = let e : i + 0 ≡ i = omega arith in rw e
+star-in (suc m) i (suc k) ends nbr kind h =
+    let e : i + suc k ≡ suc i + k = omega arith in
+    rw e (star-in m (suc i) k ends nbr kind (omega arith))
+
+pub length-stars : (m i : ℕ) (ends nbr kind : List ℕ) → length (starsIn m i ends nbr kind) ≡ m
+unfolding starsIn
+length-stars zero i ends nbr kind = refl
+length-stars (suc m) i ends nbr kind = ap suc (length-stars m (suc i) ends nbr kind)
+
+-- the star of a vertex
+module _ (ends nbr kind : List ℕ) (n v u want : ℕ) where
+  abbrev job : Job
+  job = starsIn n 0 ends nbr kind
+
+  pub side-lists : v < 4 → false ≡ lists (starOf job v) u want
+  unfolding lists any starOf
+  side-lists h = rw (lt-leb 4 v h)
+
+  pub none-lists : 4 ≤ v → n ≤ v - 4 → false ≡ lists (starOf job v) u want
+  unfolding lists any starOf
+  none-lists h k =
+      let p : length job ≤ v - 4 = omega (arith, length-stars n 0 ends nbr kind) in
+      rw (le-leb 4 v h, List·getD-eq-default job [] p)
+
+  pub room-lists : (r : Bool) (x y : ℕ) → 4 ≤ v → v - 4 < n → x ≡ startOf ends (length nbr) (v - 4) → y ≡ endOf ends (length nbr) (v - 4)
+      → r ≡ lists (cells (y - x) x nbr kind) u want → r ≡ lists (starOf job v) u want
+  unfolding starOf heldStar lists
+  room-lists r x y h k ex ey e =
+      let z : 0 + (v - 4) ≡ v - 4 = omega arith in
+      rw (le-leb 4 v h, star-in n 0 (v - 4) ends nbr kind k, z, heldStar, ← ex, ← ey) e
+
+-- the answer to an entry
+module _ (j : Job) (nbr kind : List ℕ) (u k v : ℕ) where
+  pub answer-side : v ≡ toAt nbr k → v < 4 → true ≡ answers j u (entryAt nbr kind k)
+  unfolding answers entryAt
+  answer-side e h = rw (← e, lt-leb 4 v h)
+
+  pub answer-room : (r : Bool) (x y : ℕ) → v ≡ toAt nbr k → 4 ≤ v → x ≡ getD kind k 0 → y ≡ opposite x → r ≡ lists (starOf j v) u y
+      → r ≡ answers j u (entryAt nbr kind k)
+  unfolding answers entryAt
+  answer-room r x y e h f g q = rw (← e, ← f, ← g, le-leb 4 v h) q
+
+-- the answers to the entries of a part
+module _ (j : Job) (nbr kind : List ℕ) (u end k : ℕ) (w : Bool) where
+  pub part-false : (b : Bool) → b ≡ answers j u (entryAt nbr kind k) → not b ≡ true → k < end → starAnswers j u (cells (end - k) k nbr kind) ≡ w → false ≡ w
+  unfolding starAnswers all
+  part-false b e t h inv = rw (cells-more nbr kind end k h, ← e, not-true b t) at inv
+
+  pub part-next : (b : Bool) → b ≡ answers j u (entryAt nbr kind k) → not b ≡ false → k < end → starAnswers j u (cells (end - k) k nbr kind) ≡ w
+      → starAnswers j u (cells (end - (k + 1)) (k + 1) nbr kind) ≡ w
+  unfolding starAnswers all
+  part-next b e t h inv = rw (cells-more nbr kind end k h, ← e, not-false b t) at inv
+
+  pub part-done : end ≤ k → starAnswers j u (cells (end - k) k nbr kind) ≡ w → true ≡ w
+  unfolding starAnswers all
+  part-done h inv = rw (cells-done nbr kind end k h) at inv
+
+-- the answers to a whole star
+pub star-whole : (j : Job) (ends nbr kind : List ℕ) (u i x y : ℕ) (r : Bool) → x ≡ startOf ends (length nbr) i → y ≡ endOf ends (length nbr) i
+    → r ≡ starAnswers j u (cells (y - x) x nbr kind) → r ≡ starAnswers j u (heldStar ends nbr kind i)
+unfolding heldStar
+star-whole j ends nbr kind u i x y r ex ey e = rw (← ex, ← ey) e
+
+-- test 6, star by star
+module _ (p : ℕ → Star → Bool) (ends nbr kind : List ℕ) (n i : ℕ) (w : Bool) where
+  pub stars-false : (b : Bool) → b ≡ p (4 + i) (heldStar ends nbr kind i) → not b ≡ true → i < n → allFrom p (4 + i) (starsIn (n - i) i ends nbr kind) ≡ w
+      → false ≡ w
+  unfolding allFrom
+  stars-false b e t h inv = rw (held-more ends nbr kind n i h, ← e, not-true b t) at inv
+
+  pub stars-next : (b : Bool) → b ≡ p (4 + i) (heldStar ends nbr kind i) → not b ≡ false → i < n → allFrom p (4 + i) (starsIn (n - i) i ends nbr kind) ≡ w
+      → allFrom p (4 + (i + 1)) (starsIn (n - (i + 1)) (i + 1) ends nbr kind) ≡ w
+  unfolding allFrom
+  stars-next b e t h inv =
+      let f : 4 + (i + 1) ≡ suc (4 + i) = omega arith in
+      rw f (rw (held-more ends nbr kind n i h, ← e, not-false b t) at inv)
+
+  pub stars-done : n ≤ i → allFrom p (4 + i) (starsIn (n - i) i ends nbr kind) ≡ w → true ≡ w
+  unfolding allFrom
+  stars-done h inv = rw (held-done ends nbr kind n i h) at inv
+
+pub test6-held : (h : Stars) (r : Bool) (n : ℕ) → n ≡ h .count
+    → r ≡ allFrom (starAnswers (starsIn n 0 (h .ends) (h .nbr) (h .kind))) 4 (starsIn n 0 (h .ends) (h .nbr) (h .kind)) → r ≡ test6 (jobOf h)
+unfolding jobOf
+test6-held h r n e q = (rw e at q) ∙ sym (test6-stars (jobOf h))

@@ -1,0 +1,5 @@
+pub mod Tables
+pub mod Entries
+pub mod EveryRoom
+pub mod Holding
+pub mod Back

@@ -1,0 +1,182 @@
+// The held stars: where each starts and ends, its entries, and test 6. A number past the end of an array counts as 0.
+ghost use mathlib.Core.Path.{_≡_};
+ghost use mathlib.Core.Bool.{_&&_};
+ghost use Prim.Native.Nat.{_+_, _-_, _≤_, _<_};
+ghost use lib.Dec.{eqb};
+ghost use lib.ListN.{getD};
+ghost use Rattle.floor.specs.Jobs.{starOf, lists, test6};
+ghost use Rattle.stars.specs.Held.{toAt, entryAt, cells, endOf, startOf, heldStar, starsIn, jobOf, answers, starAnswers};
+use crate::Stars;
+
+// A held number, made wide.
+fn number(x: u16) -> usize
+    ensures { λ r. ⌜ (r ≡ x) × (r < 65536) ⌝ }
+{
+    x as usize
+}
+
+// Where a star ends, of stars that lie in so many places at most.
+pub fn end_of(ends: &[u16], most: usize, i: usize) -> usize
+    ensures { λ r. ⌜ (r ≡ endOf (now (ends .entry)) most i) × (r ≤ most) ⌝ }
+{
+    if ends.len() <= i {
+        return 0;
+    }
+    let end = number(ends[i]);
+    if most < end {
+        return most;
+    }
+    end
+}
+
+// Where a star starts: where the one before it ends.
+pub fn start_of(ends: &[u16], most: usize, i: usize) -> usize
+    ensures { λ r. ⌜ (r ≡ startOf (now (ends .entry)) most i) × (r ≤ most) ⌝ }
+{
+    if i == 0 {
+        return 0;
+    }
+    end_of(ends, most, i - 1)
+}
+
+// The neighbour at a place.
+pub fn to_at(nbr: &[u16], k: usize) -> usize
+    ensures { λ r. ⌜ (r ≡ toAt (now (nbr .entry)) k) × (r < 256) ⌝ }
+{
+    if nbr.len() <= k {
+        return 0;
+    }
+    number(nbr[k]) % 256
+}
+
+// The kind at a place.
+pub fn kind_at(kind: &[u8], k: usize) -> u8
+    ensures { λ r. ⌜ r ≡ getD (now (kind .entry)) k 0 ⌝ }
+{
+    if kind.len() <= k {
+        return 0;
+    }
+    kind[k]
+}
+
+// Whether the entry at a place names the vertex with the kind.
+fn entry_lists<'a>(nbr: &'a [u16], kind: &'a [u8], k: usize, v: usize, want: u8) -> bool
+    ensures { λ r. ⌜ r ≡ (eqb (toAt (now (nbr .entry)) k) v && eqb (getD (now (kind .entry)) k 0) want) ⌝ }
+{
+    if to_at(nbr, k) == v {
+        return kind_at(kind, k) == want;
+    }
+    false
+}
+
+// Whether some entry from a place to an end names the vertex with the kind.
+fn lists_in<'a>(nbr: &'a [u16], kind: &'a [u8], from: usize, end: usize, v: usize, want: u8) -> bool
+    ensures { λ r. ⌜ r ≡ lists (cells (end - from) from (now (nbr .entry)) (now (kind .entry))) v want ⌝ }
+{
+    let mut k = from;
+    while k < end {
+        if entry_lists(nbr, kind, k, v, want) {
+            return true;
+        }
+        k += 1;
+    }
+    false
+}
+
+// Whether the star of a vertex lists another with the kind; a number that is no room's has no star.
+fn star_lists<'a>(
+    ends: &'a [u16],
+    nbr: &'a [u16],
+    kind: &'a [u8],
+    count: usize,
+    v: usize,
+    u: usize,
+    want: u8,
+) -> bool
+    ensures { λ r. ⌜ r ≡ lists (starOf (starsIn count 0 (now (ends .entry)) (now (nbr .entry)) (now (kind .entry))) v) u want ⌝ }
+{
+    if v < 4 {
+        return false;
+    }
+    if count <= v - 4 {
+        return false;
+    }
+    let from = start_of(ends, nbr.len(), v - 4);
+    let end = end_of(ends, nbr.len(), v - 4);
+    lists_in(nbr, kind, from, end, u, want)
+}
+
+// Whether the entry at a place of a room's star is answered by the neighbour's star.
+fn entry_answered<'a>(
+    ends: &'a [u16],
+    nbr: &'a [u16],
+    kind: &'a [u8],
+    count: usize,
+    u: usize,
+    k: usize,
+) -> bool
+    ensures { λ r. ⌜ r ≡ answers (starsIn count 0 (now (ends .entry)) (now (nbr .entry)) (now (kind .entry))) u
+        (entryAt (now (nbr .entry)) (now (kind .entry)) k) ⌝ }
+{
+    let v = to_at(nbr, k);
+    if v < 4 {
+        return true;
+    }
+    let want = crate::kinds::opposite_of(kind_at(kind, k));
+    star_lists(ends, nbr, kind, count, v, u, want)
+}
+
+// Whether every entry from a place to an end, of a room's star, is answered.
+fn part_answered<'a>(
+    ends: &'a [u16],
+    nbr: &'a [u16],
+    kind: &'a [u8],
+    count: usize,
+    u: usize,
+    from: usize,
+    end: usize,
+) -> bool
+    ensures { λ r. ⌜ r ≡ starAnswers (starsIn count 0 (now (ends .entry)) (now (nbr .entry)) (now (kind .entry))) u
+        (cells (end - from) from (now (nbr .entry)) (now (kind .entry))) ⌝ }
+{
+    let mut k = from;
+    while k < end {
+        if !entry_answered(ends, nbr, kind, count, u, k) {
+            return false;
+        }
+        k += 1;
+    }
+    true
+}
+
+// Whether every entry of a star is answered.
+fn star_answered<'a>(
+    ends: &'a [u16],
+    nbr: &'a [u16],
+    kind: &'a [u8],
+    count: usize,
+    i: usize,
+) -> bool
+    requires { ⌜ i < 256 ⌝ }
+    ensures { λ r. ⌜ r ≡ starAnswers (starsIn count 0 (now (ends .entry)) (now (nbr .entry)) (now (kind .entry))) (4 + i)
+        (heldStar (now (ends .entry)) (now (nbr .entry)) (now (kind .entry)) i) ⌝ }
+{
+    let from = start_of(ends, nbr.len(), i);
+    let end = end_of(ends, nbr.len(), i);
+    part_answered(ends, nbr, kind, count, 4 + i, from, end)
+}
+
+// Test 6: where a room lists another, that one lists it with the opposite kind.
+pub fn answered(stars: Stars) -> bool
+    ensures { λ r. ⌜ r ≡ test6 (jobOf stars) ⌝ }
+{
+    let count = fields::wide(stars.count);
+    let mut i: usize = 0;
+    while i < count {
+        if !star_answered(&stars.ends, &stars.nbr, &stars.kind, count, i) {
+            return false;
+        }
+        i += 1;
+    }
+    true
+}

@@ -1,0 +1,12 @@
+// Stars: the kinds, the tests of one star's bytes, and the stars of a job as they are held.
+pub mod kinds; // kinds.rt: each kind's opposite and each frame side's one kind
+pub mod star; // star.rt: tests 4 and 5 of one star's bytes
+pub mod held; // held.rt: the held stars read, and test 6 of them
+
+// The stars of a job, one behind the other: how many there are, where each ends, and the neighbours and kinds.
+pub struct Stars {
+    pub count: u8,
+    pub ends: [u16; 60],
+    pub nbr: [u16; 360],
+    pub kind: [u8; 360],
+}
