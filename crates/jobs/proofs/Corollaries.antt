@@ -1,17 +1,16 @@
 -- What follows from the promises. Assumes nothing.
 use Prim.Native.Nat.{ℕ, _≤_}
 use mathlib.Core.Path.{_≡_, refl, sym, _∙_}
-use mathlib.Core.Bool.{Bool, true, false}
 use mathlib.Core.List.{List, _++_}
 use native.Mathlib.Omega.{arith}
 use borrow.Author.Tests.{le-leb}
 use lib.ListN.{length, drop}
 use Rattle.floor.specs.Fields.{Bytes}
-use Rattle.floor.specs.Jobs.{Job, Reading, fails, reads, readJob, rawStar, test3, test4, test5, test6}
+use Rattle.floor.specs.Jobs.{Job, Reading, reads, readJob, firstSix, rawStar}
+use Rattle.floor.specs.Jobs.Facts.{six-passed}
 use Rattle.floor.specs.Jobs.{writeJob}
 use Rattle.floor.specs.Jobs.Written.{write-read-job}
-use Rattle.floor.specs.Plans.{past, drawn}
-use Rattle.floor.specs.Calls.{Reply, loadRead, load, writes, wrote}
+use Rattle.floor.specs.Calls.{Reply, writes, wrote}
 use Rattle.fields.proofs.Corollaries.{one-answer}
 use Rattle.stars.specs.declared.Stars.{Stars}
 use Rattle.stars.specs.Held.{jobOf}
@@ -20,7 +19,7 @@ use Rattle.jobs.specs.declared.Answer.the-variants.{Passed, Refused}
 use Rattle.jobs.specs.declared.Read.{Read}
 use Rattle.jobs.specs.declared.Written.{Written}
 use Rattle.jobs.specs.declared.Written.the-variants.{Wrote, TooShort}
-use Rattle.jobs.specs.Reads.{said, outcome, passing, firstSix, Tells, drawnFrom}
+use Rattle.jobs.specs.Reads.{said, outcome, Tells}
 use Rattle.jobs.specs.Writes.{replied, writing}
 
 same-answer : (a b : Answer) (j : Job) (x : Reading) → said a j ≡ x → said b j ≡ x → a ≡ b
@@ -58,43 +57,10 @@ pub one-writing : (h : Stars) (o : List ℕ) (a b : Written) (x y : List ℕ)
     → (replied b ≡ writing (jobOf h) o .reply) × (y ≡ writing (jobOf h) o .buffer) → (a ≡ b) × (x ≡ y)
 one-writing h o a b x y p q = (same-reply a b (writing (jobOf h) o .reply) (p .0) (q .0), p .1 ∙ sym (q .1))
 
-after-tests : (j : Job) (a b c d : Bool)
-    → past a 3 (λ _. past b 4 (λ _. past c 5 (λ _. past d 6 (λ _. drawn j)))) ≡ drawnFrom (passing a 3 (passing b 4 (passing c 5 (passing d 6 (reads j)))))
-unfolding past passing drawnFrom
-after-tests j false b c d = refl
-after-tests j true false c d = refl
-after-tests j true true false d = refl
-after-tests j true true true false = refl
-after-tests j true true true true = refl
-
-after-six : (x : Reading) → loadRead x ≡ drawnFrom (firstSix x)
-unfolding loadRead firstSix drawnFrom
-after-six (fails k) = refl
-after-six (reads j) = after-tests j (test3 j) (test4 j) (test5 j) (test6 j)
-
--- A LOAD IS TESTS 1 TO 6, THEN THE DRAWING
-pub load-after-six : (bs : List ℕ) → load bs ≡ drawnFrom (firstSix (readJob bs))
-unfolding load
-load-after-six bs = after-six (readJob bs)
-
-passed-once : (j i : Job) (k : ℕ) (b : Bool) (x : Reading) → passing b k x ≡ reads i → (x ≡ reads i → j ≡ i) → j ≡ i
-unfolding passing
-passed-once j i k true x e h = h e
-passed-once j i k false x e h = absurd (let z : _≡_ {A = ℕ} 0 1 = cc in omega arith)
-
-passed-six : (x : Reading) (i : Job) → firstSix x ≡ reads i → x ≡ reads i
-unfolding firstSix
-passed-six (fails k) i e = absurd (let z : _≡_ {A = ℕ} 0 1 = cc in omega arith)
-passed-six (reads j) i e =
-    let same : j ≡ i =
-    passed-once j i 3 (test3 j) _ e
-    (λ e₃. passed-once j i 4 (test4 j) _ e₃ (λ e₄. passed-once j i 5 (test5 j) _ e₄ (λ e₅. passed-once j i 6 (test6 j) _ e₅ (λ e₆. cc)))) in
-    rw same
-
 -- THE HELD JOB IS THE ONE THAT WAS READ
 pub held-is-read : (bs : List ℕ) (r : Read) → Tells r (firstSix (readJob bs)) → r .answer ≡ Passed → readJob bs ≡ reads (jobOf (r .stars))
 unfolding outcome said
-held-is-read bs r t p = passed-six (readJob bs) (jobOf (r .stars)) (sym (t .says) ∙ rw p)
+held-is-read bs r t p = six-passed (readJob bs) (jobOf (r .stars)) (sym (t .says) ∙ rw p) .reading
 
 -- READ, THEN WRITTEN: THE SAME BYTES
 pub read-written : (bs : List ℕ) (r : Read) → Bytes bs → Tells r (firstSix (readJob bs)) → r .answer ≡ Passed → writeJob (jobOf (r .stars)) ≡ bs

@@ -11,7 +11,7 @@ use Rattle.floor.specs.Lists.{all}
 use Rattle.floor.specs.Lists.Laws.{and-right}
 use Rattle.floor.specs.Fields.{readField, valueOf, restOf, afterFields}
 use Rattle.floor.specs.Jobs.{Job, isVertex, isRoom, pairsIn, starOk, test2, test3, test4, test5, test6}
-use Rattle.floor.specs.Jobs.{Reading, fails, reads, readJob, rawFrom, rawStar}
+use Rattle.floor.specs.Jobs.{Reading, fails, reads, readJob, passing, firstSix, rawFrom, rawStar}
 use Rattle.stars.specs.declared.Stars.{Stars}
 use Rattle.stars.specs.Rooms.{allFrom}
 use Rattle.stars.specs.Held.{jobOf, noStars, heldOf}
@@ -22,7 +22,7 @@ use Rattle.jobs.specs.declared.Shape.the-variants.{Fails, Rooms}
 use Rattle.jobs.specs.declared.Answer.the-variants.{Passed, Refused}
 use Rattle.jobs.specs.declared.Read.{Read}
 use Rattle.jobs.specs.Shapes.{starsAt, entriesOk, reading, told}
-use Rattle.jobs.specs.Reads.{said, outcome, kept, passing, firstSix, Tells}
+use Rattle.jobs.specs.Reads.{said, outcome, kept, Tells}
 
 pub refuses : (k : ℕ) (h : Stars) → h ≡ noStars → Tells (record { answer = Refused k; stars = h }) (fails k)
 unfolding outcome said kept

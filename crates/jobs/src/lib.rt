@@ -1,7 +1,7 @@
 // Jobs from bytes: tests 1 to 6, the star question, and writing a job back.
 ghost use mathlib.Core.Path.{_≡_};
-ghost use Rattle.floor.specs.Jobs.{readJob, rawStar};
-ghost use Rattle.jobs.specs.Reads.{firstSix, Tells};
+ghost use Rattle.floor.specs.Jobs.{readJob, rawStar, firstSix};
+ghost use Rattle.jobs.specs.Reads.{Tells};
 ghost use Rattle.stars.specs.Held.{jobOf};
 ghost use Rattle.jobs.specs.Writes.{replied, writing};
 use stars::Stars;

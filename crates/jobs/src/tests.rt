@@ -2,9 +2,9 @@
 ghost use mathlib.Core.Path.{_≡_};
 ghost use Prim.Native.Nat.{_≤_};
 ghost use lib.ListN.{drop};
-ghost use Rattle.floor.specs.Jobs.{pairsIn, reads, fails};
+ghost use Rattle.floor.specs.Jobs.{pairsIn, reads, fails, firstSix};
 ghost use Rattle.jobs.specs.Shapes.{starsAt};
-ghost use Rattle.jobs.specs.Reads.{firstSix, Tells};
+ghost use Rattle.jobs.specs.Reads.{Tells};
 use crate::Answer;
 use crate::Read;
 
