@@ -6,9 +6,8 @@ use native.Mathlib.Omega.{arith}
 use borrow.Author.Tests.{le-leb}
 use lib.ListN.{length, drop}
 use Rattle.floor.specs.Fields.{Bytes}
-use Rattle.floor.specs.Jobs.{Job, Reading, reads, readJob, firstSix, rawStar}
+use Rattle.floor.specs.Jobs.{Job, Reading, reads, readJob, firstSix, rawStar, writeJob}
 use Rattle.floor.specs.Jobs.Facts.{six-passed}
-use Rattle.floor.specs.Jobs.{writeJob}
 use Rattle.floor.specs.Jobs.Written.{write-read-job}
 use Rattle.floor.specs.Calls.{Reply, writes, wrote}
 use Rattle.fields.proofs.Corollaries.{one-answer}

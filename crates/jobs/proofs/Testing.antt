@@ -10,8 +10,8 @@ use lib.ListN.{length, drop}
 use Rattle.floor.specs.Lists.{all}
 use Rattle.floor.specs.Lists.Laws.{and-right}
 use Rattle.floor.specs.Fields.{readField, valueOf, restOf, afterFields}
-use Rattle.floor.specs.Jobs.{Job, isVertex, isRoom, pairsIn, starOk, test2, test3, test4, test5, test6}
-use Rattle.floor.specs.Jobs.{Reading, fails, reads, readJob, passing, firstSix, rawFrom, rawStar}
+use Rattle.floor.specs.Jobs.{Job, isVertex, isRoom, pairsIn, starOk, test2, test3, test4, test5, test6, Reading, fails, reads, readJob, passing, firstSix}
+use Rattle.floor.specs.Jobs.{rawFrom, rawStar}
 use Rattle.stars.specs.declared.Stars.{Stars}
 use Rattle.stars.specs.Rooms.{allFrom}
 use Rattle.stars.specs.Held.{jobOf, noStars, heldOf}
@@ -95,7 +95,8 @@ module _ (s : List ℕ) (f : Shape) (x : Read) where
   unfolding reading firstSix
   read-fails k e q t = rw (← q, e) t
 
-  pub read-tested : (n a p : ℕ) → f ≡ Rooms n a p → reading f s ≡ readJob s → Tells x (firstSix (reads (starsAt n (drop a s)))) → Tells x (firstSix (readJob s))
+  pub read-tested : (n a p : ℕ) → f ≡ Rooms n a p → reading f s ≡ readJob s → Tells x (firstSix (reads (starsAt n (drop a s))))
+      → Tells x (firstSix (readJob s))
   unfolding reading
   read-tested n a p e q t = rw (← q, e) t
 

@@ -68,7 +68,8 @@ module _ (ends nbr kind : List ℕ) (i : ℕ) where
   pub field-end : (at m : ℕ) → m ≡ many → at + 3 + 2 * m ≡ at + length (starField ends nbr kind i)
   field-end at m e = omega (arith, length-field m e)
 
-  pub field-put : (o h x : List ℕ) (at from m : ℕ) → m ≡ many → from ≡ begin → at + length (starField ends nbr kind i) ≤ length o → h ≡ withHead o at 2 (2 * m)
+  pub field-put : (o h x : List ℕ) (at from m : ℕ) → m ≡ many → from ≡ begin → at + length (starField ends nbr kind i) ≤ length o
+      → h ≡ withHead o at 2 (2 * m)
       → x ≡ sets h (at + 3) (starBytes (cells m from nbr kind)) → x ≡ sets o at (starField ends nbr kind i)
   unfolding starField writeField heldStar withHead
   field-put o h x at from m em ef room eh ex =

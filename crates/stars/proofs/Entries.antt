@@ -120,7 +120,8 @@ module _ (s : List ℕ) (w : Bool) (i : ℕ) where
   unfolding chained
   rise-false l h inv = rw (two h, lt-leb (getD s (i + 1) 0) (getD s (i + 3) 0) l) at inv
 
-  pub rise-next : getD s (i + 1) 0 ≤ getD s (i + 3) 0 → i + 3 < length s → chained rises (entries (drop i s)) ≡ w → chained rises (entries (drop (i + 2) s)) ≡ w
+  pub rise-next : getD s (i + 1) 0 ≤ getD s (i + 3) 0 → i + 3 < length s → chained rises (entries (drop i s)) ≡ w
+      → chained rises (entries (drop (i + 2) s)) ≡ w
   unfolding chained
   rise-next l h inv = rw (later h) (rw (two h, le-leb (getD s (i + 1) 0) (getD s (i + 3) 0) l) at inv)
 

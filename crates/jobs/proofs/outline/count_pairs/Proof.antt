@@ -1,4 +1,4 @@
-use Rattle.jobs.proofs.Outlines.{pairs-fit}
+use Rattle.jobs.proofs.Outlines.{pairs-fit, count-broken, count-tag, count-odd, count-next, count-left, count-done}
 use Prim.Native.Nat.{_-_, _≤_}
 use mathlib.Core.Path.{_≡_}
 use native.Mathlib.Nat.{sub-zero}
@@ -7,7 +7,6 @@ use lib.ListN.{drop}
 use Rattle.floor.specs.Jobs.{readStars}
 use Rattle.jobs.specs.Shapes.{pairsPast}
 use Rattle.fields.proofs.Laws.{in-order, within}
-use Rattle.jobs.proofs.Outlines.{count-broken, count-tag, count-odd, count-next, count-left, count-done}
 use borrow.Author.Needs.{needs}
 use Rattle.jobs.proofs.outline.count_pairs.Statement.{statement}
 use Rattle.jobs.proofs.outline.count_pairs.Tie as tie
