@@ -13,7 +13,7 @@ use Rattle.floor.specs.Walls.{Rule, same, before, Numbers, Holds, Respects, Cir
 use Rattle.floor.specs.Walls.Walk.{Walk, start, on, off, up}
 use Rattle.floor.specs.Walls.{at, raise}
 use Rattle.floor.specs.Walls.Relax.{total, raise-is, raise-more, raise-reached, length-raise, Reached, Within}
-use Rattle.walls.specs.Steps.{Lifts, Does, Grew, Passed, ruleOf, rulesOf}
+use Rattle.walls.specs.Steps.{Lifts, Ran, Grew, Passed, ruleOf}
 
 lift-is-raise : (f : List ℕ) (a b w : ℕ) → at f b < at f a + w → set f b (at f a + w) ≡ raise f a b w
 unfolding raise
@@ -32,32 +32,45 @@ lift-grew E f a b w top l h t step = rw (lift-is-raise f a b w h) (record {
     under c s (inl e) = omega (arith, c s)
     under c s (inr e) = omega arith
 
+one-holds : (g : ℕ → ℕ) (r : Rule) → Holds g r → Respects (r ∷ []) g
+one-holds g r h q (List·Memᴰ·head e) = rw e h
+
 -- a rule with a gap is one lift
-pub does-up : (r : Step) (f f′ : List ℕ) (a b w top : ℕ) → 0 < w → b < length f → Lifts r f f′ a b w top → Does r f f′ (ruleOf a b w) top
-does-up r f f′ a b zero top p l h = absurd (omega arith)
-does-up Kept f f′ a b (suc x) top p l h = h
-does-up Raised f f′ a b (suc x) top p l h = λ E m. rw (h .0) (lift-grew E f a b (suc x) top l (h .1) (h .2) (λ v w. up m w))
-does-up Over f f′ a b (suc x) top p l h = λ E m k. record { side = b; count = at f a + suc x; walk = up m (k a); more = h .1 }
+pub ran-up : (r : Step) (f f′ : List ℕ) (a b w top : ℕ) → 0 < w → b < length f → Lifts r f f′ a b w top → Ran r (ruleOf a b w ∷ []) f f′ top
+ran-up r f f′ a b zero top p l h = absurd (omega arith)
+ran-up Kept f f′ a b (suc x) top p l h = (h .0, one-holds (at f) (before a b x) (h .1))
+ran-up Raised f f′ a b (suc x) top p l h =
+    λ E m. rw (h .0) (lift-grew E f a b (suc x) top l (h .1) (h .2) (λ v w. up (m (before a b x) (List·Memᴰ·head refl)) w))
+ran-up Over f f′ a b (suc x) top p l h =
+    λ E m k. record { side = b; count = at f a + suc x; walk = up (m (before a b x) (List·Memᴰ·head refl)) (k a); more = h .1 }
 
 -- a joining rule: the lift up, where that has something to do
-pub does-raised : (f f′ : List ℕ) (a b w top : ℕ) → w ≤ 0 → b < length f → Lifts Raised f f′ a b w top → Does Raised f f′ (ruleOf a b w) top
-does-raised f f′ a b zero top p l h = λ E m. rw (h .0) (lift-grew E f a b 0 top l (h .1) (h .2) (λ v w. rw add-zero (on m w)))
-does-raised f f′ a b (suc x) top p l h = absurd (omega arith)
+pub ran-raised : (f f′ : List ℕ) (a b w top : ℕ) → w ≤ 0 → b < length f → Lifts Raised f f′ a b w top → Ran Raised (ruleOf a b w ∷ []) f f′ top
+ran-raised f f′ a b zero top p l h =
+    λ E m. rw (h .0) (lift-grew E f a b 0 top l (h .1) (h .2) (λ v w. rw add-zero (on (m (same a b) (List·Memᴰ·head refl)) w)))
+ran-raised f f′ a b (suc x) top p l h = absurd (omega arith)
 
-pub does-over : (f f′ : List ℕ) (a b w top : ℕ) → w ≤ 0 → Lifts Over f f′ a b w top → Does Over f f′ (ruleOf a b w) top
-does-over f f′ a b zero top p h = λ E m k. record { side = b; count = at f a; walk = on m (k a); more = omega (arith, h .1) }
-does-over f f′ a b (suc x) top p h = absurd (omega arith)
+pub ran-over : (f f′ : List ℕ) (a b w top : ℕ) → w ≤ 0 → Lifts Over f f′ a b w top → Ran Over (ruleOf a b w ∷ []) f f′ top
+ran-over f f′ a b zero top p h =
+    λ E m k. record { side = b; count = at f a; walk = on (m (same a b) (List·Memᴰ·head refl)) (k a); more = omega (arith, h .1) }
+ran-over f f′ a b (suc x) top p h = absurd (omega arith)
 
 -- and else the lift back
-pub does-back : (r : Step) (f f₁ f′ : List ℕ) (a b w top : ℕ) → w ≤ 0 → a < length f → Lifts Kept f f₁ a b w top → Lifts r f₁ f′ b a 0 top
-    → Does r f f′ (ruleOf a b w) top
-does-back r f f₁ f′ a b (suc x) top p l k h = absurd (omega arith)
-does-back Kept f f₁ f′ a b zero top p l k h =
+pub ran-back : (r : Step) (f f₁ f′ : List ℕ) (a b w top : ℕ) → w ≤ 0 → a < length f → Lifts Kept f f₁ a b w top → Lifts r f₁ f′ b a 0 top
+    → Ran r (ruleOf a b w ∷ []) f f′ top
+ran-back r f f₁ f′ a b (suc x) top p l k h = absurd (omega arith)
+ran-back Kept f f₁ f′ a b zero top p l k h =
     let e : (f′ ≡ f) × (at f b + 0 ≤ at f a) = (h .0 ∙ k .0, rw (k .0) at (h .1)) in
-    (e .0, omega (arith, k .1))
-does-back Raised f f₁ f′ a b zero top p l k h =
+    (e .0, one-holds (at f) (same a b) (omega (arith, k .1)))
+ran-back Raised f f₁ f′ a b zero top p l k h =
     let g : Lifts Raised f f′ b a 0 top = rw (k .0) at h in
-    λ E m. rw (g .0) (lift-grew E f b a 0 top l (g .1) (g .2) (λ v w. rw add-zero (off m w)))
-does-back Over f f₁ f′ a b zero top p l k h =
+    λ E m. rw (g .0) (lift-grew E f b a 0 top l (g .1) (g .2) (λ v w. rw add-zero (off (m (same a b) (List·Memᴰ·head refl)) w)))
+ran-back Over f f₁ f′ a b zero top p l k h =
     let g : Lifts Over f f′ b a 0 top = rw (k .0) at h in
-    λ E m t. record { side = a; count = at f b; walk = off m (t b); more = omega (arith, g .1) }
+    λ E m t. record { side = a; count = at f b; walk = off (m (same a b) (List·Memᴰ·head refl)) (t b); more = omega (arith, g .1) }
+
+-- inside the list the default does not matter
+pub at-getD : (f : List ℕ) (s : ℕ) → s < length f → getD f s 0 ≡ at f s
+at-getD [] s h = absurd (omega arith)
+at-getD (x ∷ f) zero h = refl
+at-getD (x ∷ f) (suc s) h = at-getD f s (omega arith)

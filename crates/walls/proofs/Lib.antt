@@ -1,3 +1,4 @@
 pub mod Grow
-pub mod Sofar
+pub mod Running
+pub mod Telling
 pub mod Settling

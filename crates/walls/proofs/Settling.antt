@@ -13,7 +13,7 @@ use Rattle.walls.specs.declared.Step.the-variants.{Kept, Raised, Over}
 use Rattle.floor.specs.Walls.{Rule, Numbers, Respects, Circle}
 use Rattle.floor.specs.Walls.{at}
 use Rattle.floor.specs.Walls.Relax.{total, Reached, reached-numbers}
-use Rattle.walls.specs.Steps.{Passes, Passed, Enough, Answers}
+use Rattle.walls.specs.Steps.{Ran, Grew, Capped, Passed, Enough, Answers}
 
 -- the first i numbers are v
 abbrev pub Filled : List ℕ → ℕ → ℕ → Type 0
@@ -43,19 +43,16 @@ pub total-capped : (f : List ℕ) (top : ℕ) → ((s : ℕ) → at f s ≤ top)
 total-capped [] top h = omega arith
 total-capped (x ∷ f) top h = omega (arith, h 0, total-capped f top (λ s. h (suc s)), suc-mul (length f) top)
 
-pub settled : (E : List Rule) (f f′ : List ℕ) (top n : ℕ) → length f ≡ n → Reached E f → Passes Kept E f f′ top → Answers true E f′ n
+pub settled : (E : List Rule) (f f′ : List ℕ) (top n : ℕ) → length f ≡ n → Reached E f → Ran Kept E f f′ top → Answers true E f′ n
 settled E f f′ top n l k p = rw (p .0) (reached-numbers E f k (p .1), l)
 
-pub circle : (E : List Rule) (f f′ : List ℕ) (top : ℕ) → Enough E top → Reached E f → Passes Over E f f′ top → Circle E
-circle E f f′ top en k p g r =
-    let w : Passed E top = p k in
-    omega (arith, en g r (w .side) (w .count) (w .walk), w .more)
-
--- what is left to raise falls with each pass that raises
-pub falls : (E : List Rule) (f f′ : List ℕ) (top n : ℕ) → length f ≡ n → ((s : ℕ) → at f s ≤ top) → Passes Raised E f f′ top → n * top - total f′ < n * top - total f
-falls E f f′ top n l c g =
-    let m : total f′ ≤ n * top = rw (g .len ∙ l) at (total-capped f′ top (g .capped c)) in
-    omega (arith, g .more)
-
+-- a walk past the top shows a circle
 pub passed-circle : (E : List Rule) (top : ℕ) → Enough E top → Passed E top → Circle E
 passed-circle E top en w g r = omega (arith, en g r (w .side) (w .count) (w .walk), w .more)
+
+-- what is left to raise falls with each pass that raises
+pub falls : (E : List Rule) (f f′ : List ℕ) (top n : ℕ) → length f ≡ n → Capped f top → Ran Raised E f f′ top → n * top - total f′ < n * top - total f
+falls E f f′ top n l c p =
+    let g : Grew E f f′ top = p E (λ r m. m) in
+    let m : total f′ ≤ n * top = rw (g .len ∙ l) at (total-capped f′ top (g .capped c)) in
+    omega (arith, g .more)

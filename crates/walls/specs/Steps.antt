@@ -1,19 +1,14 @@
--- What the steps of the code promise.
--- Assumes nothing.
-use mathlib.Core.Path.{_≡_, refl, sym, ap, _∙_, subst}
-use mathlib.Core.Logic.{_⊎_, inl, inr}
+-- What the steps of the code promise. Assumes nothing.
+use mathlib.Core.Path.{_≡_}
 use mathlib.Core.Bool.{Bool, true, false}
-use mathlib.Core.Option.{Option, none, some}
-use mathlib.Core.List.{List, [], _∷_, _++_, List·Memᴰ, List·Memᴰ·head, List·Memᴰ·tail}
-use Prim.Native.Nat.{ℕ, zero, suc, _+_, _*_, _≤_, _<_}
-use native.Mathlib.Omega.{arith}
-use lib.ListN.{length, getD, set, replicate}
+use mathlib.Core.List.{List, List·Memᴰ}
+use Prim.Native.Nat.{ℕ, zero, suc, _+_, _≤_, _<_}
+use lib.ListN.{length, set, replicate}
 use Rattle.walls.specs.declared.Step.{Step}
 use Rattle.walls.specs.declared.Step.the-variants.{Kept, Raised, Over}
-use Rattle.floor.specs.Walls.{Rule, same, before, Numbers, Holds, Respects, Circle}
-use Rattle.floor.specs.Walls.Walk.{Walk, start, on, off, up}
-use Rattle.floor.specs.Walls.{at}
-use Rattle.floor.specs.Walls.Relax.{total, Reached, Within}
+use Rattle.floor.specs.Walls.{Rule, same, before, Numbers, Respects, Circle, at}
+use Rattle.floor.specs.Walls.Walk.{Walk}
+use Rattle.floor.specs.Walls.Relax.{total, Reached}
 
 -- side b against side a
 abbrev pub Lifts : Step → List ℕ → List ℕ → ℕ → ℕ → ℕ → ℕ → Type 0
@@ -26,13 +21,6 @@ abbrev pub ruleOf : ℕ → ℕ → ℕ → Rule
 ruleOf a b zero = same a b
 ruleOf a b (suc x) = before a b x
 
--- the rules of three lists
-abbrev pub rulesOf : List ℕ → List ℕ → List ℕ → List Rule
-rulesOf [] bs ws = []
-rulesOf (a ∷ xs) [] ws = []
-rulesOf (a ∷ xs) (b ∷ bs) [] = []
-rulesOf (a ∷ xs) (b ∷ bs) (w ∷ ws) = ruleOf a b w ∷ rulesOf xs bs ws
-
 -- some walk passes the top
 pub record Passed (E : List Rule) (top : ℕ) : Type 0 where
   pub side : ℕ
@@ -40,6 +28,7 @@ pub record Passed (E : List Rule) (top : ℕ) : Type 0 where
   pub walk : Walk E side count
   pub more : top < count
 
+-- no number is above the top
 abbrev pub Capped : List ℕ → ℕ → Type 0
 Capped f top = (s : ℕ) → at f s ≤ top
 
@@ -48,21 +37,37 @@ pub record Grew (E : List Rule) (f f′ : List ℕ) (top : ℕ) : Type 0 where
   pub len : length f′ ≡ length f
   pub more : total f < total f′
   pub reach : Reached E f → Reached E f′
-  pub capped : ((s : ℕ) → at f s ≤ top) → (s : ℕ) → at f′ s ≤ top
+  pub capped : Capped f top → Capped f′ top
 
-abbrev pub Does : Step → List ℕ → List ℕ → Rule → ℕ → Type 0
-Does Kept f f′ r top = (f′ ≡ f) × Holds (at f) r
-Does Raised f f′ r top = (E : List Rule) → List·Memᴰ r E → Grew E f f′ top
-Does Over f f′ r top = (E : List Rule) → List·Memᴰ r E → Reached E f → Passed E top
+-- numbers were raised or stayed, by the rules of E, and not past the top
+pub record Rose (E : List Rule) (f f′ : List ℕ) (top : ℕ) : Type 0 where
+  pub len : length f′ ≡ length f
+  pub reach : Reached E f → Reached E f′
+  pub capped : Capped f top → Capped f′ top
 
-abbrev pub Passes : Step → List Rule → List ℕ → List ℕ → ℕ → Type 0
-Passes Kept E f f′ top = (f′ ≡ f) × Respects E (at f)
-Passes Raised E f f′ top = Grew E f f′ top
-Passes Over E f f′ top = Reached E f → Passed E top
+-- the rules of D are among those of E
+abbrev pub Among : List Rule → List Rule → Type 0
+Among D E = (r : Rule) → List·Memᴰ r D → List·Memᴰ r E
 
--- the lists are of one length, and their sides are below n
-abbrev pub Indexed : List ℕ → List ℕ → List ℕ → ℕ → Type 0
-Indexed xs bs ws n = (length bs ≡ length xs) × (length ws ≡ length xs) × ((k : ℕ) → k < length xs → (getD xs k 0 < n) × (getD bs k 0 < n))
+-- THE RULES OF D WERE RUN, once each: all of them are met; or numbers were raised; or a walk passes the top
+abbrev pub Ran : Step → List Rule → List ℕ → List ℕ → ℕ → Type 0
+Ran Kept D f f′ top = (f′ ≡ f) × Respects D (at f)
+Ran Raised D f f′ top = (E : List Rule) → Among D E → Grew E f f′ top
+Ran Over D f f′ top = (E : List Rule) → Among D E → Reached E f → Passed E top
+
+-- SOME RULES OF E WERE RUN, in any order, as often as one likes
+abbrev pub Climbs : Step → List Rule → List ℕ → List ℕ → ℕ → Type 0
+Climbs Kept E f f′ top = Rose E f f′ top
+Climbs Raised E f f′ top = Rose E f f′ top
+Climbs Over E f f′ top = Reached E f → Passed E top
+
+-- what one step and then another did
+abbrev pub both : Step → Step → Step
+both Kept t = t
+both Raised Kept = Raised
+both Raised Raised = Raised
+both Raised Over = Over
+both Over t = Over
 
 -- where numbers can be put on the walls, no walk passes the top
 abbrev pub Enough : List Rule → ℕ → Type 0
@@ -72,25 +77,3 @@ Enough E top = (g : ℕ → ℕ) → Respects E g → (s v : ℕ) → Walk E s v
 abbrev pub Answers : Bool → List Rule → List ℕ → ℕ → Type 0
 Answers true E f n = Numbers E (at f) × (length f ≡ n)
 Answers false E f n = Circle E × (f ≡ replicate n 0)
-
--- inside the list the default does not matter
-pub at-getD : (f : List ℕ) (s : ℕ) → s < length f → getD f s 0 ≡ at f s
-at-getD [] s h = absurd (omega arith)
-at-getD (x ∷ f) zero h = refl
-at-getD (x ∷ f) (suc s) h = at-getD f s (omega arith)
-
--- numbers were raised or stayed, by the rules of E, and not past the top
-pub record Rose (E : List Rule) (f f′ : List ℕ) (top : ℕ) : Type 0 where
-  pub len : length f′ ≡ length f
-  pub reach : Reached E f → Reached E f′
-  pub capped : ((s : ℕ) → at f s ≤ top) → (s : ℕ) → at f′ s ≤ top
-
--- rules taken in any order, as often as one likes
-abbrev pub Climbs : Step → List Rule → List ℕ → List ℕ → ℕ → Type 0
-Climbs Kept E f f′ top = Rose E f f′ top
-Climbs Raised E f f′ top = Rose E f f′ top
-Climbs Over E f f′ top = Reached E f → Passed E top
-
-abbrev pub Rises : Bool → List Rule → List ℕ → List ℕ → ℕ → Type 0
-Rises true E f f′ top = Rose E f f′ top
-Rises false E f f′ top = Reached E f → Passed E top

@@ -17,7 +17,7 @@ use Rattle.floor.specs.Jobs.Stars.{entry, GoodStar, kindOf-mid, mem-name
 use Rattle.floor.specs.Jobs.Facts.{SixPassed, room-is, Passes, passes-of}
 use Rattle.floor.specs.Walls.{Numbers, Axis, upright, level, rules, at, jobNumbers}
 use Rattle.floor.specs.Walls.Walk.{unique, numbers-respects}
-use Rattle.floor.specs.Walls.Rules.{numbered, numbers-are}
+use Rattle.floor.specs.Walls.Rules.{numbered, numbers-are, to-vertex}
 use Rattle.floor.specs.Plans.{Plan, planOf, drawable, Answer, refused, held, past, test8, tested, planned, drawn}
 use Rattle.floor.specs.Plans.Held.{past-true, Drawn, drawn-held, drawn-again}
 use Rattle.floor.specs.Turns.Swing.{named-front}
@@ -40,16 +40,16 @@ pub record Numbered (j : Job) (p : Plan) : Type 0 where
 -- the text's numbers are the computed ones
 computed : (a : Axis) (j : Job) → Passes j → (f : ℕ → ℕ) → Numbers (rules a j) f → (l : List ℕ) × (jobNumbers a j ≡ some l) × (f ≡ at l)
 computed a j ok f n =
-    let (l, e) = numbered a j ok f (numbers-respects (rules a j) f n) in
-    (l, e, fun-ext (λ s. unique (rules a j) f (at l) n (numbers-are a j ok l e) s))
+    let (l, e) = numbered a j (to-vertex j ok) f (numbers-respects (rules a j) f n) in
+    (l, e, fun-ext (λ s. unique (rules a j) f (at l) n (numbers-are a j (to-vertex j ok) l e) s))
 
 module _ (j : Job) (ok : Passes j) (p : Plan) where
   pub drawn-numbered : Drawn j p → Numbered j p
   drawn-numbered d = record {
     xs = at (d .xs);
     ys = at (d .ys);
-    are-upright = numbers-are upright j ok (d .xs) (d .is-upright);
-    are-level = numbers-are level j ok (d .ys) (d .is-level);
+    are-upright = numbers-are upright j (to-vertex j ok) (d .xs) (d .is-upright);
+    are-level = numbers-are level j (to-vertex j ok) (d .ys) (d .is-level);
     is-plan = d .is-plan;
     small = d .small;
     draws = d .draws;

@@ -11,7 +11,7 @@ use borrow.Author.Tests.{eq-eqb, ne-eqb}
 use Rattle.floor.specs.Jobs.{Entry, Job}
 use Rattle.floor.specs.Jobs.Facts.{Passes}
 use Rattle.floor.specs.Walls.{Respects, Axis, upright, level, low, high, rules, at, jobNumbers}
-use Rattle.floor.specs.Walls.Rules.{Obeys, obeys-respects, numbered, numbers-are}
+use Rattle.floor.specs.Walls.Rules.{Obeys, obeys-respects, numbered, numbers-are, to-vertex}
 use Rattle.floor.specs.Plans.{Plan, planOf}
 use Rattle.floor.specs.Floor.{GoodPlan}
 use Rattle.floor.specs.Floor.Sides.{Side, up, right, opp, round, Piece, room, Place, size, Known, Meets, Good}
@@ -87,8 +87,8 @@ unfolding starsOf
 good-ours j ok p gp =
     let g : Good (starsOf j) (placeOf p) = plan-good j ok p gp in
     let (i, b) = good-tri (starsOf j) (lawful j ok) (placeOf p) g .base in
-    let (f, ef) = numbered upright j ok (measure (placeOf p) right) (good-upright j ok (placeOf p) g) in
-    let (h, eh) = numbered level j ok (measure (placeOf p) up) (good-level j ok (placeOf p) g) in
+    let (f, ef) = numbered upright j (to-vertex j ok) (measure (placeOf p) right) (good-upright j ok (placeOf p) g) in
+    let (h, eh) = numbered level j (to-vertex j ok) (measure (placeOf p) up) (good-level j ok (placeOf p) g) in
     record {
       xs = f;
       ys = h;
@@ -96,5 +96,5 @@ good-ours j ok p gp =
       is-level = eh;
       good = good-plan j ok (planOf j (at f) (at h)) (plan-complete j (at f) (at h))
           (good-again (starsOf j) (lawful j ok) (placeOf p) (placeOf (planOf j (at f) (at h))) g
-          (plan-fits j ok (omega (arith, b .0)) (at f) (at h) (numbers-are upright j ok f ef) (numbers-are level j ok h eh)));
+          (plan-fits j ok (omega (arith, b .0)) (at f) (at h) (numbers-are upright j (to-vertex j ok) f ef) (numbers-are level j (to-vertex j ok) h eh)));
     }

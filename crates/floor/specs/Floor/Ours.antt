@@ -79,7 +79,7 @@ module _ (j : Job) (ok : Passes j) (w : Way j) where
           omega (arith, below r hr (omega arith))
 
   highest : (m i : ℕ) → 1 + length j ≤ f (high (4 + i)) + m → i < length j → f (high (4 + i)) ≤ f (low (num k))
-  highest zero i l h = one-ahead i h (λ r hr q. absurd (omega (arith, job-bound a j ok f n (high (4 + r)))))
+  highest zero i l h = one-ahead i h (λ r hr q. absurd (omega (arith, job-bound a j (to-vertex j ok) f n (high (4 + r)))))
   highest (suc m) i l h = one-ahead i h (λ r hr q. highest m r (omega arith) hr)
 
   -- where a room lies

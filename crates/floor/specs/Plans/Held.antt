@@ -11,7 +11,7 @@ use Rattle.floor.specs.Jobs.{Job}
 use Rattle.floor.specs.Jobs.Facts.{Passes}
 use Rattle.floor.specs.Walls.{Numbers, Circle, upright, level, low, rules, at, jobNumbers}
 use Rattle.floor.specs.Walls.Walk.{numbers-respects}
-use Rattle.floor.specs.Walls.Rules.{job-bound, numbers-are, circle-are}
+use Rattle.floor.specs.Walls.Rules.{job-bound, numbers-are, circle-are, to-vertex}
 use Rattle.floor.specs.Plans.{Plan, planOf, drawable, Answer, refused, held, past, test8, tested, planned, drawn}
 use Rattle.floor.specs.Floor.{Floor, GoodPlan}
 use Rattle.floor.specs.Floor.Tested.{good-drawable, drawable-plan}
@@ -102,8 +102,8 @@ module _ (j : Job) (ok : Passes j) where
 
       forth : (a : Option (List ℕ)) → jobNumbers upright j ≡ a → (b : Option (List ℕ)) → jobNumbers level j ≡ b → planned j a b ≡ refused 7
           → Circle (rules upright j) ⊎ Circle (rules level j)
-      forth none x b y e = inl (circle-are upright j ok x)
-      forth (some f) x none y e = inr (circle-are level j ok y)
+      forth none x b y e = inl (circle-are upright j (to-vertex j ok) x)
+      forth (some f) x none y e = inr (circle-are level j (to-vertex j ok) y)
       forth (some f) x (some g) y e = absurd (not-seven (planOf j (at f) (at g)) e)
 
       back : (a : Option (List ℕ)) → jobNumbers upright j ≡ a → (b : Option (List ℕ)) → jobNumbers level j ≡ b
@@ -111,18 +111,18 @@ module _ (j : Job) (ok : Passes j) where
       back none x none y c = refl
       back none x (some g) y c = refl
       back (some f) x none y c = refl
-      back (some f) x (some g) y (inl c) = absurd (c (at f) (numbers-respects (rules upright j) (at f) (numbers-are upright j ok f x)))
-      back (some f) x (some g) y (inr c) = absurd (c (at g) (numbers-respects (rules level j) (at g) (numbers-are level j ok g y)))
+      back (some f) x (some g) y (inl c) = absurd (c (at f) (numbers-respects (rules upright j) (at f) (numbers-are upright j (to-vertex j ok) f x)))
+      back (some f) x (some g) y (inr c) = absurd (c (at g) (numbers-respects (rules level j) (at g) (numbers-are level j (to-vertex j ok) g y)))
 
   -- THE SHEET is never wider or higher than the number of rooms plus 2
   module _ (f g : ℕ → ℕ) (nf : Numbers (rules upright j) f) (ng : Numbers (rules level j) g) where
     pub width-bound : planOf j f g .width ≤ length j + 2
     unfolding planOf
-    width-bound = omega (arith, job-bound upright j ok f nf (low 3))
+    width-bound = omega (arith, job-bound upright j (to-vertex j ok) f nf (low 3))
 
     pub height-bound : planOf j f g .height ≤ length j + 2
     unfolding planOf
-    height-bound = omega (arith, job-bound level j ok g ng (low 0))
+    height-bound = omega (arith, job-bound level j (to-vertex j ok) g ng (low 0))
 
     -- THE DRAWING TEST HOLDS EXACTLY WHEN the plan by wall numbers is a floor plan
     pub drawable-good-plan : 0 < length j → drawable j (planOf j f g) ≡ true → GoodPlan j (planOf j f g)
@@ -144,10 +144,10 @@ module _ (j : Job) (ok : Passes j) where
       go p (d .is-plan) (d .draws)
     where
       nf : Numbers (rules upright j) (at (d .xs))
-      nf = numbers-are upright j ok (d .xs) (d .is-upright)
+      nf = numbers-are upright j (to-vertex j ok) (d .xs) (d .is-upright)
 
       ng : Numbers (rules level j) (at (d .ys))
-      ng = numbers-are level j ok (d .ys) (d .is-level)
+      ng = numbers-are level j (to-vertex j ok) (d .ys) (d .is-level)
 
       go : (p : Plan) → p ≡ planOf j (at (d .xs)) (at (d .ys)) → drawable j p ≡ true → GoodPlan j p
       go p e h = rw e (drawable-good-plan (at (d .xs)) (at (d .ys)) nf ng some-room (rw e at h))
@@ -162,7 +162,7 @@ module _ (j : Job) (ok : Passes j) where
       q = planOf j (at f) (at g)
 
       same : (drawable j q ≡ true) ↔ Floor j q
-      same = drawable-is-floor (at f) (at g) (numbers-are upright j ok f ef) (numbers-are level j ok g eg) some-room
+      same = drawable-is-floor (at f) (at g) (numbers-are upright j (to-vertex j ok) f ef) (numbers-are level j (to-vertex j ok) g eg) some-room
 
       floor-draws : Floor j q → drawable j q ≡ true
       floor-draws = same .1

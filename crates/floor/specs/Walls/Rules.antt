@@ -161,16 +161,20 @@ heads-mem u (suc k) v l h = go (ℕ-discrete v u) (heads-mem (suc u) k v)
     go (yes e) below = List·Memᴰ·head (ap (λ (t : ℕ). record { side = high t; most = 1 }) e)
     go (no e) below = List·Memᴰ·tail (below (omega arith) (omega arith))
 
+-- every neighbour is a vertex of the job
+abbrev pub Named : Job → Type 0
+Named j = (i : ℕ) → i < length j → (e : Entry) → List·Memᴰ e (getD j i []) → e .to < length j + 4
+
 -- the neighbours of a job past test 4 are its vertices
-pub to-vertex : (j : Job) → Passes j → (i : ℕ) → i < length j → (e : Entry) → List·Memᴰ e (getD j i []) → e .to < length j + 4
+pub to-vertex : (j : Job) → Passes j → Named j
 to-vertex j k i h e m = k .entries (4 + i) (omega arith, omega arith) e (rw (star-at j i) m) .below
 
-module _ (a : Axis) (j : Job) (k : Passes j) where
+module _ (a : Axis) (j : Job) (k : Named j) where
   sane : (r : Rule) → List·Memᴰ r (rules a j) → Sane (length j + 4) r
   sane = told-every (Sane (length j + 4)) a 4 j (record {
     own = λ i h. (omega arith, omega arith, refl, (4 + i, omega arith, omega arith, refl));
     each = λ i h e m.
-        let l : e .to < length j + 4 = to-vertex j k i h e m in
+        let l : e .to < length j + 4 = k i h e m in
         record {
           if-far = λ q. (omega arith, omega arith);
           if-near = λ q. (omega arith, omega arith);

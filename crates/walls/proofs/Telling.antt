@@ -1,0 +1,163 @@
+-- The rules of an entry, a star and a room, as the code comes by them. Assumes nothing.
+use mathlib.Core.Path.{_≡_, refl, sym}
+use mathlib.Core.Bool.{Bool, true, false, _&&_}
+use mathlib.Core.List.{List, [], _∷_, _++_}
+use Prim.Native.Nat.{ℕ, suc, _+_, _-_, _≤_, _<_}
+use native.Mathlib.Omega.{arith}
+use borrow.Author.Tests.{le-leb, lt-leb, ne-eqb, ltb-true}
+use lib.Dec.{ltb}
+use lib.ListN.{length, getD}
+use Rattle.floor.specs.Lists.{all}
+use Rattle.floor.specs.Lists.Laws.{and-left, and-right}
+use Rattle.floor.specs.Jobs.{Star, Job}
+use Rattle.floor.specs.Walls.{Rule, same, before, low, high, entryRules, starRules, rulesFrom, rules}
+use Rattle.stars.specs.Held.{toAt, entryAt, cells, startOf, endOf, heldStar, starsIn}
+use Rattle.stars.specs.Pairs.{pair}
+use Rattle.stars.proofs.Holding.{cells-more, cells-done, held-more, held-done}
+use Rattle.walls.specs.declared.Step.{Step}
+use Rattle.walls.specs.declared.Step.the-variants.{Kept}
+use Rattle.walls.specs.declared.Direction.{Direction}
+use Rattle.walls.specs.declared.Direction.the-variants.{Upright, Level}
+use Rattle.walls.specs.Steps.{Ran, both}
+use Rattle.walls.specs.Jobs.{axisOf, entryNamed, starNamed, named}
+use Rattle.walls.proofs.Running.{ran-both, Going, going-start, going-next, going-done}
+
+-- the rules of an entry, by its kind
+module _ (u v k : ℕ) where
+  rules-far : (w : Direction) → k ≡ axisOf w .far → entryRules (axisOf w) u (pair v k) ≡ same (high u) (low v) ∷ []
+  unfolding entryRules
+  rules-far Upright e = rw e
+  rules-far Level e = rw e
+
+  rules-near : (w : Direction) → k ≡ axisOf w .near → entryRules (axisOf w) u (pair v k) ≡ same (high v) (low u) ∷ []
+  unfolding entryRules
+  rules-near Upright e = rw e
+  rules-near Level e = rw e
+
+  rules-cross : (w : Direction) → k ≡ axisOf w .cross → 4 ≤ v → entryRules (axisOf w) u (pair v k) ≡ before (low u) (high v) 0 ∷ before (low v) (high u) 0 ∷ []
+  unfolding entryRules
+  rules-cross Upright e l = rw (e, le-leb 4 v l)
+  rules-cross Level e l = rw (e, le-leb 4 v l)
+
+  rules-side : (w : Direction) → k ≡ axisOf w .cross → v < 4 → entryRules (axisOf w) u (pair v k) ≡ []
+  unfolding entryRules
+  rules-side Upright e l = rw (e, lt-leb 4 v l)
+  rules-side Level e l = rw (e, lt-leb 4 v l)
+
+  rules-other : (w : Direction) → (k ≡ axisOf w .far → ⊥) → (k ≡ axisOf w .near → ⊥) → (k ≡ axisOf w .cross → ⊥)
+      → entryRules (axisOf w) u (pair v k) ≡ []
+  unfolding entryRules
+  rules-other w x y z = rw (ne-eqb k (axisOf w .far) x, ne-eqb k (axisOf w .near) y, ne-eqb k (axisOf w .cross) z)
+
+  module _ (w : Direction) (s : Step) (f f′ : List ℕ) (top : ℕ) where
+    pub ran-far : (x : ℕ) → x ≡ axisOf w .far → k ≡ x → Ran s (same (high u) (low v) ∷ []) f f′ top → Ran s (entryRules (axisOf w) u (pair v k)) f f′ top
+    ran-far x e h r = rw (rules-far w (rw (← e) h)) r
+
+    pub ran-near : (x : ℕ) → x ≡ axisOf w .near → k ≡ x → Ran s (same (high v) (low u) ∷ []) f f′ top → Ran s (entryRules (axisOf w) u (pair v k)) f f′ top
+    ran-near x e h r = rw (rules-near w (rw (← e) h)) r
+
+    pub ran-cross : (x : ℕ) → x ≡ axisOf w .cross → k ≡ x → 4 ≤ v → Ran s (before (low u) (high v) 0 ∷ before (low v) (high u) 0 ∷ []) f f′ top
+        → Ran s (entryRules (axisOf w) u (pair v k)) f f′ top
+    ran-cross x e h l r = rw (rules-cross w (rw (← e) h) l) r
+
+  module _ (w : Direction) (f : List ℕ) (top : ℕ) where
+    pub ran-side : (x : ℕ) → x ≡ axisOf w .cross → k ≡ x → v < 4 → Ran Kept (entryRules (axisOf w) u (pair v k)) f f top
+    ran-side x e h l = rw (rules-side w (rw (← e) h) l) (refl, λ r m. elim m [ ])
+
+    pub ran-other : (x y z : ℕ) → x ≡ axisOf w .far → y ≡ axisOf w .near → z ≡ axisOf w .cross → (k ≡ x → ⊥) → (k ≡ y → ⊥) → (k ≡ z → ⊥)
+        → Ran Kept (entryRules (axisOf w) u (pair v k)) f f top
+    ran-other x y z a b c p q r =
+        rw (rules-other w (λ e. p (rw a e)) (λ e. q (rw b e)) (λ e. r (rw c e))) (refl, λ o m. elim m [ ])
+
+-- the two rules of a contact across
+pub ran-crossed : (u v : ℕ) (s t r : Step) (f f₁ f₂ : List ℕ) (top : ℕ) → Ran s (before (low u) (high v) 0 ∷ []) f f₁ top
+    → Ran t (before (low v) (high u) 0 ∷ []) f₁ f₂ top → r ≡ both s t → Ran r (before (low u) (high v) 0 ∷ before (low v) (high u) 0 ∷ []) f f₂ top
+ran-crossed u v s t r f f₁ f₂ top p q e =
+    rw e (ran-both (before (low u) (high v) 0 ∷ []) (before (low v) (high u) 0 ∷ []) f f₁ f₂ top s t p q)
+
+-- a star, entry by entry
+module _ (w : Direction) (u : ℕ) (nbr kind : List ℕ) (end k : ℕ) where
+  abbrev left : List Rule
+  left = starRules (axisOf w) u (cells (end - k) k nbr kind)
+
+  abbrev later : List Rule
+  later = starRules (axisOf w) u (cells (end - (k + 1)) (k + 1) nbr kind)
+
+  star-more : k < end → left ≡ entryRules (axisOf w) u (entryAt nbr kind k) ++ later
+  unfolding starRules
+  star-more h = rw (cells-more nbr kind end k h)
+
+  pub star-next : (s t r : Step) (W : List Rule) (f₀ f f₁ : List ℕ) (top v x : ℕ) → Going s left W f₀ f top → k < end → v ≡ toAt nbr k → x ≡ getD kind k 0
+      → Ran t (entryRules (axisOf w) u (pair v x)) f f₁ top → r ≡ both s t → Going r later W f₀ f₁ top
+  unfolding entryAt
+  star-next s t r W f₀ f f₁ top v x g h ev ex p e =
+      rw e (going-next s t (entryRules (axisOf w) u (entryAt nbr kind k)) later W f₀ f f₁ top (rw (star-more h) at g) (rw (ev, ex) at p))
+
+  pub star-done : (s : Step) (W : List Rule) (f₀ f : List ℕ) (top : ℕ) → end ≤ k → Going s left W f₀ f top → Ran s W f₀ f top
+  unfolding starRules
+  star-done s W f₀ f top h g = going-done s W f₀ f top (rw (cells-done nbr kind end k h) at g)
+
+-- the neighbours of a star, entry by entry
+module _ (nbr kind : List ℕ) (end k m : ℕ) (h : k < end) (e : starNamed m (cells (end - k) k nbr kind) ≡ true) where
+  abbrev rest : Star
+  rest = cells (end - (k + 1)) (k + 1) nbr kind
+
+  named-both : ltb (high (toAt nbr k)) m && starNamed m rest ≡ true
+  unfolding starNamed all entryAt
+  named-both = rw (cells-more nbr kind end k h) at e
+
+  pub named-here : (v l : ℕ) → v ≡ toAt nbr k → l ≡ m → high v < l
+  named-here v l ev el = rw (ev, el) (ltb-true (high (toAt nbr k)) m (and-left (ltb (high (toAt nbr k)) m) (starNamed m rest) named-both))
+
+  pub named-later : starNamed m rest ≡ true
+  named-later = and-right (ltb (high (toAt nbr k)) m) (starNamed m rest) named-both
+
+-- a room
+module _ (ends nbr kind : List ℕ) (i from end : ℕ) (ef : from ≡ startOf ends (length nbr) i) (ee : end ≡ endOf ends (length nbr) i) where
+  pub room-named : (m l : ℕ) → starNamed m (heldStar ends nbr kind i) ≡ true → l ≡ m → starNamed l (cells (end - from) from nbr kind) ≡ true
+  unfolding heldStar
+  room-named m l h e = rw (e, ef, ee) h
+
+  pub ran-room : (w : Direction) (s t r : Step) (f f₁ f₂ : List ℕ) (top : ℕ) → Ran s (before (low (4 + i)) (high (4 + i)) 0 ∷ []) f f₁ top
+      → Ran t (starRules (axisOf w) (4 + i) (cells (end - from) from nbr kind)) f₁ f₂ top → r ≡ both s t
+      → Ran r (before (low (4 + i)) (high (4 + i)) 0 ∷ starRules (axisOf w) (4 + i) (heldStar ends nbr kind i)) f f₂ top
+  unfolding heldStar
+  ran-room w s t r f f₁ f₂ top p q e =
+      rw e (ran-both (before (low (4 + i)) (high (4 + i)) 0 ∷ []) (starRules (axisOf w) (4 + i) (heldStar ends nbr kind i)) f f₁ f₂ top s t p (rw (ef, ee) at q))
+
+-- a job, room by room
+module _ (ends nbr kind : List ℕ) (n i : ℕ) where
+  abbrev roomsLeft : Job
+  roomsLeft = starsIn (n - i) i ends nbr kind
+
+  abbrev roomsLater : Job
+  roomsLater = starsIn (n - (i + 1)) (i + 1) ends nbr kind
+
+  module _ (m : ℕ) (h : i < n) (e : named m roomsLeft ≡ true) where
+    rooms-both : starNamed m (heldStar ends nbr kind i) && named m roomsLater ≡ true
+    unfolding named all
+    rooms-both = rw (held-more ends nbr kind n i h) at e
+
+    pub rooms-here : (l : ℕ) → l ≡ m → starNamed l (heldStar ends nbr kind i) ≡ true
+    rooms-here l q = rw q (and-left (starNamed m (heldStar ends nbr kind i)) (named m roomsLater) rooms-both)
+
+    pub rooms-later : named m roomsLater ≡ true
+    rooms-later = and-right (starNamed m (heldStar ends nbr kind i)) (named m roomsLater) rooms-both
+
+  module _ (w : Direction) where
+    rules-more : i < n → rulesFrom (axisOf w) (4 + i) roomsLeft
+        ≡ (before (low (4 + i)) (high (4 + i)) 0 ∷ starRules (axisOf w) (4 + i) (heldStar ends nbr kind i)) ++ rulesFrom (axisOf w) (4 + (i + 1)) roomsLater
+    unfolding rulesFrom
+    rules-more h = let e : 4 + (i + 1) ≡ suc (4 + i) = omega arith in rw (held-more ends nbr kind n i h, e)
+
+    pub pass-next : (s t r : Step) (W : List Rule) (f₀ f f₁ : List ℕ) (top : ℕ) → Going s (rulesFrom (axisOf w) (4 + i) roomsLeft) W f₀ f top → i < n
+        → Ran t (before (low (4 + i)) (high (4 + i)) 0 ∷ starRules (axisOf w) (4 + i) (heldStar ends nbr kind i)) f f₁ top → r ≡ both s t
+        → Going r (rulesFrom (axisOf w) (4 + (i + 1)) roomsLater) W f₀ f₁ top
+    pass-next s t r W f₀ f f₁ top g h p e =
+        rw e (going-next s t (before (low (4 + i)) (high (4 + i)) 0 ∷ starRules (axisOf w) (4 + i) (heldStar ends nbr kind i))
+        (rulesFrom (axisOf w) (4 + (i + 1)) roomsLater) W f₀ f f₁ top (rw (rules-more h) at g) p)
+
+    pub pass-done : (s : Step) (W : List Rule) (f₀ f : List ℕ) (top : ℕ) → Going s (rulesFrom (axisOf w) (4 + i) roomsLeft) W f₀ f top → n ≤ i
+        → Ran s W f₀ f top
+    unfolding rulesFrom
+    pass-done s W f₀ f top g h = going-done s W f₀ f top (rw (held-done ends nbr kind n i h) at g)

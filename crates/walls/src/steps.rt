@@ -1,0 +1,60 @@
+// One rule, and what it does to the numbers.
+ghost use mathlib.Core.Path.{_≡_};
+ghost use mathlib.Core.List.{[], _∷_};
+ghost use Prim.Native.Nat.{_<_};
+ghost use lib.ListN.{length};
+ghost use Rattle.walls.specs.Steps.{Lifts, Ran, ruleOf, both};
+use crate::Step;
+
+fn wide(x: u16) -> usize
+    ensures { λ r. ⌜ (r ≡ x) × (r < 65536) ⌝ }
+{
+    x as usize
+}
+
+// What one step and then another did.
+pub fn both_of(first: Step, then: Step) -> Step
+    ensures { λ r. ⌜ r ≡ both first then ⌝ }
+{
+    match first {
+        Step::Kept => then,
+        Step::Raised => match then {
+            Step::Kept => Step::Raised,
+            Step::Raised => Step::Raised,
+            Step::Over => Step::Over,
+        },
+        Step::Over => Step::Over,
+    }
+}
+
+// Side b raised to at least w above side a.
+fn lift(f: &mut [u16], a: usize, b: usize, w: u16, top: u16) -> Step
+    requires { ⌜ (a < length (now f)) × (b < length (now f)) ⌝ }
+    ensures { λ r. ⌜ Lifts r (now (f .entry)) (now (f .exit)) a b w top ⌝ }
+{
+    let v = wide(f[a]) + wide(w);
+    if v <= wide(f[b]) {
+        return Step::Kept;
+    }
+    if wide(top) < v {
+        return Step::Over;
+    }
+    f[b] = v as u16;
+    Step::Raised
+}
+
+// One rule: b at least w above a, and for w = 0 on one wall with it.
+pub fn apply(f: &mut [u16], a: usize, b: usize, w: u16, top: u16) -> Step
+    requires { ⌜ (a < length (now f)) × (b < length (now f)) ⌝ }
+    ensures { λ r. ⌜ Ran r (ruleOf a b w ∷ []) (now (f .entry)) (now (f .exit)) top ⌝ }
+{
+    let up = lift(f, a, b, w, top);
+    if 0 < w {
+        return up;
+    }
+    match up {
+        Step::Kept => lift(f, b, a, 0, top),
+        Step::Raised => Step::Raised,
+        Step::Over => Step::Over,
+    }
+}
