@@ -1,4 +1,5 @@
 pub mod Grow
 pub mod Running
 pub mod Telling
+pub mod Visiting
 pub mod Settling

@@ -9,6 +9,7 @@ use native.Mathlib.Decide.{decLt}
 use native.Mathlib.Omega.{arith}
 use lib.ListN.{length, getD, set, replicate, length-set, length-replicate, getD-replicate, List·getD-eq-default}
 use lib.Seq.{ext-getD, getD-set-same, getD-set-other}
+use Rattle.walls.specs.declared.Step.{Step}
 use Rattle.walls.specs.declared.Step.the-variants.{Kept, Raised, Over}
 use Rattle.floor.specs.Walls.{Rule, Numbers, Respects, Circle}
 use Rattle.floor.specs.Walls.{at}
@@ -43,16 +44,33 @@ pub total-capped : (f : List ℕ) (top : ℕ) → ((s : ℕ) → at f s ≤ top)
 total-capped [] top h = omega arith
 total-capped (x ∷ f) top h = omega (arith, h 0, total-capped f top (λ s. h (suc s)), suc-mul (length f) top)
 
-pub settled : (E : List Rule) (f f′ : List ℕ) (top n : ℕ) → length f ≡ n → Reached E f → Ran Kept E f f′ top → Answers true E f′ n
-settled E f f′ top n l k p = rw (p .0) (reached-numbers E f k (p .1), l)
+-- a pass that keeps the numbers: they are the text's
+pub settled : (E : List Rule) (s : Step) (f f′ : List ℕ) (top n : ℕ) → s ≡ Kept → Ran s E f f′ top → length f ≡ n → Reached E f → Answers true E f′ n
+settled E s f f′ top n e p l k = let q : Ran Kept E f f′ top = rw e at p in rw (q .0) (reached-numbers E f k (q .1), l)
+
+-- one that raises them leaves less to raise, and what was reached is reached
+module _ (E : List Rule) (s : Step) (f f′ : List ℕ) (top n : ℕ) (e : s ≡ Raised) (p : Ran s E f f′ top) where
+  grew : Grew E f f′ top
+  grew = let q : Ran Raised E f f′ top = rw e at p in q E (λ r m. m)
+
+  pub falls : length f ≡ n → Capped f top → n * top - total f′ < n * top - total f
+  falls l c =
+      let m : total f′ ≤ n * top = rw (grew .len ∙ l) at (total-capped f′ top (grew .capped c)) in
+      omega (arith, grew .more)
+
+  pub still-reached : Reached E f → Reached E f′
+  still-reached k = grew .reach k
+
+  pub still-capped : Capped f top → Capped f′ top
+  still-capped c = grew .capped c
 
 -- a walk past the top shows a circle
 pub passed-circle : (E : List Rule) (top : ℕ) → Enough E top → Passed E top → Circle E
 passed-circle E top en w g r = omega (arith, en g r (w .side) (w .count) (w .walk), w .more)
 
--- what is left to raise falls with each pass that raises
-pub falls : (E : List Rule) (f f′ : List ℕ) (top n : ℕ) → length f ≡ n → Capped f top → Ran Raised E f f′ top → n * top - total f′ < n * top - total f
-falls E f f′ top n l c p =
-    let g : Grew E f f′ top = p E (λ r m. m) in
-    let m : total f′ ≤ n * top = rw (g .len ∙ l) at (total-capped f′ top (g .capped c)) in
-    omega (arith, g .more)
+-- a pass that comes past the top: the walls run in a circle, and the numbers are noughts
+pub ran-circle : (E : List Rule) (s : Step) (f f₁ f′ : List ℕ) (top n : ℕ) → s ≡ Over → Ran s E f f₁ top → Reached E f → Enough E top → length f₁ ≡ n
+    → f′ ≡ replicate (length f₁) 0 → Answers false E f′ n
+ran-circle E s f f₁ f′ top n e p k en l q =
+    let o : Ran Over E f f₁ top = rw e at p in
+    (passed-circle E top en (o E (λ r m. m) k), rw (← l) q)

@@ -125,6 +125,10 @@ module _ (ends nbr kind : List ℕ) (i from end : ℕ) (ef : from ≡ startOf en
   ran-room w s t r f f₁ f₂ top p q e =
       rw e (ran-both (before (low (4 + i)) (high (4 + i)) 0 ∷ []) (starRules (axisOf w) (4 + i) (heldStar ends nbr kind i)) f f₁ f₂ top s t p (rw (ef, ee) at q))
 
+-- as many sides
+pub named-same : (m l : ℕ) (j : Job) → named m j ≡ true → l ≡ m → named l j ≡ true
+named-same m l j h e = rw e h
+
 -- a job, room by room
 module _ (ends nbr kind : List ℕ) (n i : ℕ) where
   abbrev roomsLeft : Job

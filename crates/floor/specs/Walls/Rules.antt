@@ -16,7 +16,7 @@ use Rattle.floor.specs.Jobs.{Entry, Star, Job}
 use Rattle.floor.specs.Jobs.Facts.{Passes, star-at}
 use Rattle.floor.specs.Walls.{Rule, same, before, Numbers, Holds, Respects, Axis, low, high, when, entryRules, starRules, rulesFrom, rules, at}
 use Rattle.floor.specs.Walls.{jobNumbers}
-use Rattle.floor.specs.Walls.Walk.{Positive, walk-le, numbers-walk, numbers-respects}
+use Rattle.floor.specs.Walls.Walk.{Walk, Positive, walk-le, numbers-walk, numbers-respects}
 use Rattle.floor.specs.Walls.Bound.{Head, Heads, all-room, walk-bound}
 use Rattle.floor.specs.Walls.Relax.{Right, Within, numbersOf-right}
 
@@ -54,7 +54,7 @@ module _ (P : Rule → Type 0) where
   when-mem t E r e m = rw e m
 
   module _ (a : Axis) where
-    entry-every : (u : ℕ) (e : Entry) → Asks P a u e → Every P (entryRules a u e)
+    pub entry-every : (u : ℕ) (e : Entry) → Asks P a u e → Every P (entryRules a u e)
     unfolding entryRules
     entry-every u e h =
         every-append (when (eqb (e .kind) (a .far)) (same (high u) (low (e .to)) ∷ [])) _
@@ -200,15 +200,13 @@ module _ (a : Axis) (j : Job) (k : Named j) where
   unfolding jobNumbers
   jobNumbers-right = rw (heads-room 4 (length j)) at (numbersOf-right (rules a j) (heads 4 (length j)) (2 * (length j + 4)) job-heads job-within)
 
+  -- where numbers can be put, no walk passes n + 1
+  pub job-walk : (g : ℕ → ℕ) → Respects (rules a j) g → (s v : ℕ) → Walk (rules a j) s v → v ≤ 1 + length j
+  job-walk g r s v w = omega (arith, heads-room 4 (length j), walk-bound (rules a j) (heads 4 (length j)) g job-heads r w)
+
   -- NO NUMBER PASSES n + 1
   pub job-bound : (f : ℕ → ℕ) → Numbers (rules a j) f → (s : ℕ) → f s ≤ 1 + length j
-  job-bound f n s =
-      omega (
-        arith,
-        heads-room 4 (length j),
-        walk-bound (rules a j) (heads 4 (length j)) f job-heads (numbers-respects (rules a j) f n)
-            (numbers-walk (rules a j) f n s),
-      )
+  job-bound f n s = job-walk f (numbers-respects (rules a j) f n) s (f s) (numbers-walk (rules a j) f n s)
 
   -- numbers that respect the rules show that the job has its numbers
   pub numbered : (g : ℕ → ℕ) → Respects (rules a j) g → (f : List ℕ) × (jobNumbers a j ≡ some f)

@@ -1,0 +1,84 @@
+-- Visits: some rules of a job, wherever they stand. Assumes nothing.
+use mathlib.Core.Path.{_≡_, refl, sym}
+use mathlib.Core.Bool.{Bool, true}
+use mathlib.Core.List.{List, [], _∷_, List·Memᴰ, List·Memᴰ·head, List·Memᴰ·tail}
+use Prim.Native.Nat.{ℕ, suc, zero, _+_, _-_, _*_, _≤_, _<_}
+use native.Mathlib.Omega.{arith}
+use native.Mathlib.Decide.{ℕ-discrete}
+use borrow.Author.Tests.{ltb-true}
+use lib.ListN.{length, getD}
+use Rattle.floor.specs.Lists.Laws.{all-mem, mem-getD}
+use Rattle.floor.specs.Jobs.{Entry, Star, Job}
+use Rattle.floor.specs.Walls.{Rule, before, low, high, entryRules, rules}
+use Rattle.floor.specs.Walls.Rules.{Told, Named, entry-every, every-told}
+use Rattle.stars.specs.Held.{toAt, entryAt, cells, startOf, endOf, heldStar, starsIn}
+use Rattle.stars.specs.Pairs.{pair}
+use Rattle.stars.proofs.Holding.{cells-more, star-in, length-stars}
+use Rattle.walls.specs.declared.Step.{Step}
+use Rattle.walls.specs.declared.Step.the-variants.{Kept}
+use Rattle.walls.specs.declared.Direction.{Direction}
+use Rattle.walls.specs.Steps.{Rose, Among, Ran, Climbs}
+use Rattle.walls.specs.Jobs.{axisOf, entryNamed, starNamed, named}
+use Rattle.walls.proofs.Running.{ran-climbs}
+
+-- nothing was done
+pub climbs-none : (E : List Rule) (f : List ℕ) (top : ℕ) → Climbs Kept E f f top
+climbs-none E f top = record { len = refl; reach = λ k. k; capped = λ c. c }
+
+-- every neighbour of a job with so many sides is a vertex
+module _ (m : ℕ) (j : Job) (b : named m j ≡ true) where
+  pub named-entry : (i : ℕ) → i < length j → (e : Entry) → List·Memᴰ e (getD j i []) → high (e .to) < m
+  unfolding named starNamed
+  named-entry i h e q = ltb-true (high (e .to)) m (all-mem (entryNamed m) (getD j i []) (all-mem (starNamed m) j b (getD j i []) (mem-getD j i [] h)) e q)
+
+  pub all-named : m ≡ 2 * (length j + 4) → Named j
+  all-named q i h e p = omega (arith, named-entry i h e p)
+
+-- an entry between a star's start and its end is one of the star's
+cells-mem : (nbr kind : List ℕ) (n from k : ℕ) → from ≤ k → k < from + n → List·Memᴰ (entryAt nbr kind k) (cells n from nbr kind)
+unfolding cells
+cells-mem nbr kind zero from k l h = absurd (omega arith)
+cells-mem nbr kind (suc n) from k l h = go (ℕ-discrete k from) (λ a. cells-mem nbr kind n (suc from) k a (omega arith))
+  where
+    go : Dec (k ≡ from) → (suc from ≤ k → List·Memᴰ (entryAt nbr kind k) (cells n (suc from) nbr kind))
+        → List·Memᴰ (entryAt nbr kind k) (entryAt nbr kind from ∷ cells n (suc from) nbr kind)
+    go (yes e) later = rw e (List·Memᴰ·head refl)
+    go (no e) later = List·Memᴰ·tail (later (omega arith))
+
+module _ (ends nbr kind : List ℕ) (n : ℕ) where
+  abbrev job : Job
+  job = starsIn n 0 ends nbr kind
+
+  module _ (u k from end : ℕ) (l : 4 ≤ u) (h : u - 4 < n) (ef : from ≡ startOf ends (length nbr) (u - 4)) (ee : end ≡ endOf ends (length nbr) (u - 4))
+      (lf : from ≤ k) (le : k < end) where
+    here : List·Memᴰ (entryAt nbr kind k) (getD job (u - 4) [])
+    unfolding heldStar
+    here =
+        let z : 0 + (u - 4) ≡ u - 4 = omega arith in
+        rw (star-in n 0 (u - 4) ends nbr kind h, z, ← ef, ← ee) (cells-mem nbr kind (end - from) from k lf (omega arith))
+
+    pub visit-named : (m v x : ℕ) → named m job ≡ true → v ≡ toAt nbr k → x ≡ m → high v < x
+    unfolding entryAt
+    visit-named m v x b e q = rw (e, q) (named-entry m job b (u - 4) (omega (arith, length-stars n 0 ends nbr kind)) (entryAt nbr kind k) here)
+
+    among : (w : Direction) → Among (entryRules (axisOf w) u (entryAt nbr kind k)) (rules (axisOf w) job)
+    among w =
+        let t : Told (λ r. List·Memᴰ r (rules (axisOf w) job)) (axisOf w) 4 job = every-told (λ r. List·Memᴰ r (rules (axisOf w) job)) (axisOf w) 4 job (λ r m. m) in
+        let z : 4 + (u - 4) ≡ u = omega arith in
+        rw z at (entry-every (λ r. List·Memᴰ r (rules (axisOf w) job)) (axisOf w) (4 + (u - 4)) (entryAt nbr kind k)
+        (t .each (u - 4) (omega (arith, length-stars n 0 ends nbr kind)) (entryAt nbr kind k) here))
+
+    pub visit-climbs : (w : Direction) (s : Step) (f f′ : List ℕ) (top v x : ℕ) → v ≡ toAt nbr k → x ≡ getD kind k 0
+        → Ran s (entryRules (axisOf w) u (pair v x)) f f′ top → Climbs s (rules (axisOf w) job) f f′ top
+    unfolding entryAt
+    visit-climbs w s f f′ top v x ev ex p =
+        ran-climbs (entryRules (axisOf w) u (entryAt nbr kind k)) (rules (axisOf w) job) f f′ top s (among w) (rw (ev, ex) at p)
+
+  pub own-climbs : (w : Direction) (i : ℕ) (s : Step) (f f′ : List ℕ) (top : ℕ) → i < n → Ran s (before (low (4 + i)) (high (4 + i)) 0 ∷ []) f f′ top
+      → Climbs s (rules (axisOf w) job) f f′ top
+  own-climbs w i s f f′ top h p =
+      let t : Told (λ r. List·Memᴰ r (rules (axisOf w) job)) (axisOf w) 4 job = every-told (λ r. List·Memᴰ r (rules (axisOf w) job)) (axisOf w) 4 job (λ r m. m) in
+      ran-climbs (before (low (4 + i)) (high (4 + i)) 0 ∷ []) (rules (axisOf w) job) f f′ top s (only (t .own i (omega (arith, length-stars n 0 ends nbr kind)))) p
+    where
+      only : List·Memᴰ (before (low (4 + i)) (high (4 + i)) 0) (rules (axisOf w) job) → Among (before (low (4 + i)) (high (4 + i)) 0 ∷ []) (rules (axisOf w) job)
+      only m r (List·Memᴰ·head e) = rw e m

@@ -1,0 +1,115 @@
+// The numbers of the sides in one direction: rules run in a good order, then passes until nothing changes or a number is too large.
+ghost use mathlib.Core.Path.{_≡_};
+ghost use mathlib.Core.Bool.{true};
+ghost use Prim.Native.Nat.{_+_, _*_, _≤_, _<_};
+ghost use lib.ListN.{length, replicate};
+ghost use Rattle.floor.specs.Walls.{rules};
+ghost use Rattle.floor.specs.Walls.Relax.{Reached};
+ghost use Rattle.stars.specs.Held.{starsIn};
+ghost use Rattle.walls.specs.Steps.{Answers, Capped, Climbs, Enough};
+ghost use Rattle.walls.specs.Jobs.{axisOf, named};
+use crate::Direction;
+use crate::Step;
+
+// Every number v.
+fn fill(f: &mut [u16], v: u16)
+    ensures { λ _. ⌜ now (f .exit) ≡ replicate (length (now (f .entry))) v ⌝ }
+{
+    let mut i = 0;
+    while i < f.len() {
+        f[i] = v;
+        i += 1;
+    }
+}
+
+// Passes from numbers that are reached, until nothing changes or a number would pass the top.
+fn settle<'a>(
+    f: &mut [u16],
+    way: Direction,
+    ends: &'a [u16],
+    nbr: &'a [u16],
+    kind: &'a [u8],
+    count: usize,
+    top: u16,
+) -> bool
+    requires { ⌜ (count < 256) × (length (now f) ≡ 2 * (count + 4)) × (named (length (now f)) (starsIn count 0 (now ends) (now nbr) (now kind)) ≡ true)
+        × Enough (rules (axisOf way) (starsIn count 0 (now ends) (now nbr) (now kind))) top
+        × Reached (rules (axisOf way) (starsIn count 0 (now ends) (now nbr) (now kind))) (now f) × Capped (now f) top ⌝ }
+    ensures { λ r. ⌜ Answers r (rules (axisOf way) (starsIn count 0 (now (ends .entry)) (now (nbr .entry)) (now (kind .entry))))
+        (now (f .exit)) (length (now (f .entry))) ⌝ }
+{
+    loop {
+        let did = crate::rules::pass(f, way, ends, nbr, kind, count, top);
+        match did {
+            Step::Kept => {
+                return true;
+            }
+            Step::Raised => {}
+            Step::Over => {
+                fill(f, 0);
+                return false;
+            }
+        }
+    }
+}
+
+// The rules of the entry at place k, if it is one of room u's.
+fn visit_entry<'a>(
+    f: &mut [u16],
+    way: Direction,
+    ends: &'a [u16],
+    nbr: &'a [u16],
+    kind: &'a [u8],
+    count: usize,
+    u: usize,
+    k: usize,
+    top: u16,
+) -> Step
+    requires { ⌜ (count < 256) × (length (now f) ≡ 2 * (count + 4)) × (named (length (now f)) (starsIn count 0 (now ends) (now nbr) (now kind)) ≡ true) ⌝ }
+    ensures { λ r. ⌜ Climbs r (rules (axisOf way) (starsIn count 0 (now (ends .entry)) (now (nbr .entry)) (now (kind .entry))))
+        (now (f .entry)) (now (f .exit)) top ⌝ }
+{
+    if u < 4 {
+        return Step::Kept;
+    }
+    if count <= u - 4 {
+        return Step::Kept;
+    }
+    let from = stars::held::start_of(ends, nbr.len(), u - 4);
+    let end = stars::held::end_of(ends, nbr.len(), u - 4);
+    if k < from {
+        return Step::Kept;
+    }
+    if end <= k {
+        return Step::Kept;
+    }
+    let v = stars::held::to_at(nbr, k);
+    crate::rules::entry(f, way, u, v, stars::held::kind_at(kind, k), top)
+}
+
+// A visit: the entry at a place, with the room that it may be of; or, past the places, the rule that a room's low wall comes before its high one.
+fn visit<'a>(
+    f: &mut [u16],
+    way: Direction,
+    ends: &'a [u16],
+    nbr: &'a [u16],
+    kind: &'a [u8],
+    count: usize,
+    u: usize,
+    k: usize,
+    top: u16,
+) -> Step
+    requires { ⌜ (count < 256) × (length (now f) ≡ 2 * (count + 4)) × (named (length (now f)) (starsIn count 0 (now ends) (now nbr) (now kind)) ≡ true) ⌝ }
+    ensures { λ r. ⌜ Climbs r (rules (axisOf way) (starsIn count 0 (now (ends .entry)) (now (nbr .entry)) (now (kind .entry))))
+        (now (f .entry)) (now (f .exit)) top ⌝ }
+{
+    let most = nbr.len();
+    if k < most {
+        return visit_entry(f, way, ends, nbr, kind, count, u, k, top);
+    }
+    let i = k - most;
+    if count <= i {
+        return Step::Kept;
+    }
+    crate::steps::apply(f, 2 * (4 + i), 2 * (4 + i) + 1, 1, top)
+}
