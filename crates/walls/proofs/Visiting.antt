@@ -17,9 +17,9 @@ use Rattle.stars.proofs.Holding.{cells-more, star-in, length-stars}
 use Rattle.walls.specs.declared.Step.{Step}
 use Rattle.walls.specs.declared.Step.the-variants.{Kept}
 use Rattle.walls.specs.declared.Direction.{Direction}
-use Rattle.walls.specs.Steps.{Rose, Among, Ran, Climbs}
+use Rattle.walls.specs.Steps.{Rose, Among, Ran, Climbs, both}
 use Rattle.walls.specs.Jobs.{axisOf, entryNamed, starNamed, named}
-use Rattle.walls.proofs.Running.{ran-climbs}
+use Rattle.walls.proofs.Running.{ran-climbs, climbs-both}
 
 -- nothing was done
 pub climbs-none : (E : List Rule) (f : List ℕ) (top : ℕ) → Climbs Kept E f f top
@@ -82,3 +82,8 @@ module _ (ends nbr kind : List ℕ) (n : ℕ) where
     where
       only : List·Memᴰ (before (low (4 + i)) (high (4 + i)) 0) (rules (axisOf w) job) → Among (before (low (4 + i)) (high (4 + i)) 0 ∷ []) (rules (axisOf w) job)
       only m r (List·Memᴰ·head e) = rw e m
+
+-- and one visit more
+pub climbs-more : (E : List Rule) (f f₁ f₂ : List ℕ) (top : ℕ) (s t r : Step) → Climbs s E f f₁ top → Climbs t E f₁ f₂ top → r ≡ both s t
+    → Climbs r E f f₂ top
+climbs-more E f f₁ f₂ top s t r p q e = rw e (climbs-both E f f₁ f₂ top s t p q)

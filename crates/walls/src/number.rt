@@ -113,3 +113,95 @@ fn visit<'a>(
     }
     crate::steps::apply(f, 2 * (4 + i), 2 * (4 + i) + 1, 1, top)
 }
+
+// The number at a place of a list, 0 past its end.
+fn number_at(list: &[u16], i: usize) -> usize
+    ensures { λ r. ⌜ r < 65536 ⌝ }
+{
+    if list.len() <= i {
+        return 0;
+    }
+    crate::steps::wide(list[i])
+}
+
+// The visits from one place of an order to another. Whatever the order names, only the time goes by it.
+fn climb<'a>(
+    f: &mut [u16],
+    way: Direction,
+    ends: &'a [u16],
+    nbr: &'a [u16],
+    kind: &'a [u8],
+    count: usize,
+    owner: &'a [u16],
+    visits: &'a [u16],
+    from: usize,
+    to: usize,
+    top: u16,
+) -> Step
+    requires { ⌜ (count < 256) × (length (now f) ≡ 2 * (count + 4)) × (named (length (now f)) (starsIn count 0 (now ends) (now nbr) (now kind)) ≡ true) ⌝ }
+    ensures { λ r. ⌜ Climbs r (rules (axisOf way) (starsIn count 0 (now (ends .entry)) (now (nbr .entry)) (now (kind .entry))))
+        (now (f .entry)) (now (f .exit)) top ⌝ }
+{
+    let mut done = Step::Kept;
+    let mut at = from;
+    while at < to {
+        let k = number_at(visits, at);
+        let u = number_at(owner, k);
+        let did = visit(f, way, ends, nbr, kind, count, u, k, top);
+        done = crate::steps::both_of(done, did);
+        at += 1;
+    }
+    done
+}
+
+// How many rounds are left after one: none where nothing was raised, or a number would pass the top.
+fn rounds_after(done: Step, left: u16) -> u16
+    requires { ⌜ 0 < left ⌝ }
+    ensures { λ r. ⌜ r < left ⌝ }
+{
+    match done {
+        Step::Kept => 0,
+        Step::Raised => left - 1,
+        Step::Over => 0,
+    }
+}
+
+// The same visits again and again, until a number would pass the top: as often as that can take.
+fn go_round<'a>(
+    f: &mut [u16],
+    way: Direction,
+    ends: &'a [u16],
+    nbr: &'a [u16],
+    kind: &'a [u8],
+    count: usize,
+    owner: &'a [u16],
+    visits: &'a [u16],
+    from: usize,
+    to: usize,
+    top: u16,
+) -> Step
+    requires { ⌜ (count < 256) × (length (now f) ≡ 2 * (count + 4)) × (named (length (now f)) (starsIn count 0 (now ends) (now nbr) (now kind)) ≡ true) ⌝ }
+    ensures { λ r. ⌜ Climbs r (rules (axisOf way) (starsIn count 0 (now (ends .entry)) (now (nbr .entry)) (now (kind .entry))))
+        (now (f .entry)) (now (f .exit)) top ⌝ }
+{
+    let mut done = Step::Kept;
+    let mut left: u16 = if from < to { top } else { 0 };
+    while 0 < left {
+        let did = climb(
+            f,
+            way,
+            ends,
+            nbr,
+            kind,
+            count,
+            owner,
+            visits,
+            from,
+            to,
+            top,
+        );
+        done = crate::steps::both_of(done, did);
+        left = rounds_after(done, left);
+    }
+    done
+}

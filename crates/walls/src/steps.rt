@@ -6,7 +6,8 @@ ghost use lib.ListN.{length};
 ghost use Rattle.walls.specs.Steps.{Lifts, Ran, ruleOf, both};
 use crate::Step;
 
-fn wide(x: u16) -> usize
+// A number, made wide.
+pub fn wide(x: u16) -> usize
     ensures { λ r. ⌜ (r ≡ x) × (r < 65536) ⌝ }
 {
     x as usize

@@ -1,0 +1,66 @@
+use Prim.Native.Nat.{_-_}
+use mathlib.Core.Path.{_≡_, refl}
+use lib.ListN.{length}
+use Rattle.floor.specs.Walls.{rules}
+use Rattle.stars.specs.Held.{starsIn}
+use Rattle.walls.specs.Steps.{Climbs}
+use Rattle.walls.specs.Jobs.{axisOf}
+use Rattle.walls.proofs.Telling.{named-same}
+use Rattle.walls.proofs.Visiting.{climbs-none, climbs-more}
+use borrow.Author.Needs.{needs}
+use Rattle.walls.proofs.number.climb.Statement.{statement}
+use Rattle.walls.proofs.number.climb.Tie as tie
+
+abbrev Inv-loop : tie.InvT-loop
+Inv-loop f₀ way ends nbr kind count owner visits from to top done₀ at₀ f done at = 
+    (length f ≡ length f₀) × Climbs done (rules (axisOf way) (starsIn count 0 ends nbr kind)) f₀ f top
+
+abbrev μ-loop : tie.MeasureT-loop
+μ-loop f₀ way ends nbr kind count owner visits from to top done₀ at₀ f done at = to - at
+
+loop-holds : tie.Need-loop-holds Inv-loop μ-loop
+loop-holds c = (refl, climbs-none _ _ _)
+
+number-at-requires : tie.Need-number-at-requires Inv-loop μ-loop
+number-at-requires c κs = search needs
+
+number-at-requires-2 : tie.Need-number-at-requires-2 Inv-loop μ-loop
+number-at-requires-2 c κs = search needs
+
+visit-requires : tie.Need-visit-requires Inv-loop μ-loop
+visit-requires c κs = (search needs, search needs, search (named-same, needs))
+
+both-of-requires : tie.Need-both-of-requires Inv-loop μ-loop
+both-of-requires c κs = search needs
+
+add-at : tie.Need-add-at Inv-loop μ-loop
+add-at c = search needs
+
+loop-less : tie.Need-loop-less Inv-loop μ-loop
+loop-less c = search needs
+
+loop-again : tie.Need-loop-again Inv-loop μ-loop
+loop-again c = (search needs, search (climbs-more, needs))
+
+same-length : tie.Need-same-length Inv-loop μ-loop
+same-length c = search needs
+
+returns : tie.Need-returns Inv-loop μ-loop
+returns c = search needs
+
+pub climb-spec : {M : Type 1} → statement M
+climb-spec =
+    tie.close
+    (tie.spec
+    Inv-loop
+    μ-loop
+    loop-holds
+    number-at-requires
+    number-at-requires-2
+    visit-requires
+    both-of-requires
+    add-at
+    loop-less
+    loop-again
+    same-length
+    returns)
