@@ -1,10 +1,10 @@
 -- The rules of an entry, a star and a room, as the code comes by them. Assumes nothing.
-use mathlib.Core.Path.{_≡_, refl, sym}
-use mathlib.Core.Bool.{Bool, true, false, _&&_}
+use mathlib.Core.Path.{_≡_, refl, sym, _∙_}
+use mathlib.Core.Bool.{Bool, true, false, not, _&&_}
 use mathlib.Core.List.{List, [], _∷_, _++_}
-use Prim.Native.Nat.{ℕ, suc, _+_, _-_, _≤_, _<_}
+use Prim.Native.Nat.{ℕ, suc, _+_, _-_, _*_, _≤_, _<_}
 use native.Mathlib.Omega.{arith}
-use borrow.Author.Tests.{le-leb, lt-leb, ne-eqb, ltb-true}
+use borrow.Author.Tests.{le-leb, lt-leb, ne-eqb, ltb-true, lt-ltb, le-ltb, not-true, not-false}
 use lib.Dec.{ltb}
 use lib.ListN.{length, getD}
 use Rattle.floor.specs.Lists.{all}
@@ -165,3 +165,48 @@ module _ (ends nbr kind : List ℕ) (n i : ℕ) where
         → Ran s W f₀ f top
     unfolding rulesFrom
     pass-done s W f₀ f top g h = going-done s W f₀ f top (rw (held-done ends nbr kind n i h) at g)
+
+-- the neighbours of a part, tested one by one
+module _ (nbr kind : List ℕ) (end k m : ℕ) where
+  abbrev allHere : Bool
+  allHere = starNamed m (cells (end - k) k nbr kind)
+
+  part-more : k < end → allHere ≡ (ltb (high (toAt nbr k)) m && starNamed m (cells (end - (k + 1)) (k + 1) nbr kind))
+  unfolding starNamed all entryAt
+  part-more h = rw (cells-more nbr kind end k h)
+
+  pub part-false : (w : Bool) (v : ℕ) → v ≡ toAt nbr k → m ≤ 2 * v + 1 → k < end → allHere ≡ w → false ≡ w
+  part-false w v e l h q = rw (le-ltb (high (toAt nbr k)) m (omega arith)) at (sym (part-more h) ∙ q)
+
+  pub part-next : (w : Bool) (v : ℕ) → v ≡ toAt nbr k → 2 * v + 1 < m → k < end → allHere ≡ w → starNamed m (cells (end - (k + 1)) (k + 1) nbr kind) ≡ w
+  part-next w v e l h q = rw (lt-ltb (high (toAt nbr k)) m (omega arith)) at (sym (part-more h) ∙ q)
+
+  pub part-done : (w : Bool) → end ≤ k → allHere ≡ w → true ≡ w
+  unfolding starNamed all
+  part-done w h q = rw (cells-done nbr kind end k h) at q
+
+-- a star, tested as a whole
+pub star-whole : (ends nbr kind : List ℕ) (i from end m : ℕ) (r : Bool) → from ≡ startOf ends (length nbr) i → end ≡ endOf ends (length nbr) i
+    → r ≡ starNamed m (cells (end - from) from nbr kind) → r ≡ starNamed m (heldStar ends nbr kind i)
+unfolding heldStar
+star-whole ends nbr kind i from end m r ef ee q = rw (← ef, ← ee) q
+
+-- the stars, tested one by one
+module _ (ends nbr kind : List ℕ) (n i m : ℕ) where
+  abbrev allLeft : Bool
+  allLeft = named m (starsIn (n - i) i ends nbr kind)
+
+  all-more : i < n → allLeft ≡ (starNamed m (heldStar ends nbr kind i) && named m (starsIn (n - (i + 1)) (i + 1) ends nbr kind))
+  unfolding named all
+  all-more h = rw (held-more ends nbr kind n i h)
+
+  pub all-false : (w b : Bool) → b ≡ starNamed m (heldStar ends nbr kind i) → not b ≡ true → i < n → allLeft ≡ w → false ≡ w
+  all-false w b e f h q = rw (sym e ∙ not-true b f) at (sym (all-more h) ∙ q)
+
+  pub all-next : (w b : Bool) → b ≡ starNamed m (heldStar ends nbr kind i) → not b ≡ false → i < n → allLeft ≡ w
+      → named m (starsIn (n - (i + 1)) (i + 1) ends nbr kind) ≡ w
+  all-next w b e f h q = rw (sym e ∙ not-false b f) at (sym (all-more h) ∙ q)
+
+  pub all-done : (w : Bool) → n ≤ i → allLeft ≡ w → true ≡ w
+  unfolding named all
+  all-done w h q = rw (held-done ends nbr kind n i h) at q

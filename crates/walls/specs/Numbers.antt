@@ -1,0 +1,48 @@
+-- The numbers of both directions, and how they are handed back. Assumes nothing.
+use mathlib.Core.Bool.{Bool, true, false, cond, _&&_}
+use mathlib.Core.Option.{Option, none, some}
+use mathlib.Core.List.{List}
+use Prim.Native.Nat.{ℕ}
+use lib.ListN.{length, replicate}
+use lib.Seq.{sets}
+use Rattle.floor.specs.Lists.{all}
+use Rattle.floor.specs.Jobs.{Entry, Star, Job, isVertex, test2}
+use Rattle.floor.specs.Walls.{Axis, upright, level, jobNumbers}
+use Rattle.walls.specs.declared.Answer.the-variants.{Numbered, Circle}
+use Rattle.walls.specs.declared.Walls.{Walls}
+use Rattle.walls.specs.declared.Numbers.{Numbers}
+
+-- every neighbour is a vertex of the job
+unfoldable pub vertices : Job → Bool
+vertices j = all (all (λ (e : Entry). isVertex j (e .to))) j
+
+-- THE NUMBERS OF ANY JOB in one direction: those of the definition where it has as many rooms as test 2 allows and its neighbours are vertices, and else none
+unfoldable pub numbersIn : Axis → Job → Option (List ℕ)
+numbersIn a j = cond (test2 (length j) && vertices j) (jobNumbers a j) none
+
+-- noughts
+abbrev pub noughts : List ℕ
+noughts = replicate 128 0
+
+-- numbers from the first place on, noughts behind them
+abbrev pub placed : List ℕ → List ℕ
+placed f = sets noughts 0 f
+
+-- the numbers of one direction, as they are held; none: noughts
+unfoldable pub numbersHeld : Option (List ℕ) → Numbers
+numbersHeld none = record { found = false; list = noughts }
+numbersHeld (some f) = record { found = true; list = placed f }
+
+-- the walls of which a direction has no numbers
+abbrev pub noWalls : Walls
+noWalls = record { answer = Circle; uprights = record { 0 = noughts }; levels = record { 0 = noughts } }
+
+-- the numbers of both directions
+unfoldable pub wallsFrom : Option (List ℕ) → Option (List ℕ) → Walls
+wallsFrom (some f) (some g) = record { answer = Numbered; uprights = record { 0 = placed f }; levels = record { 0 = placed g } }
+wallsFrom (some f) none = noWalls
+wallsFrom none b = noWalls
+
+-- THE WALLS OF ANY JOB
+unfoldable pub wallsOf : Job → Walls
+wallsOf j = wallsFrom (numbersIn upright j) (numbersIn level j)
