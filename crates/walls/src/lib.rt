@@ -5,6 +5,8 @@ ghost use lib.ListN.{length, replicate};
 ghost use Rattle.walls.specs.Steps.{Lifts, Does, Passes, Climbs, Rises, Answers, rulesOf, ruleOf, Indexed, Enough, Capped};
 ghost use Rattle.floor.specs.Walls.Relax.{Reached};
 
+mod order; // order.rt: a good order in which to visit the rules of a job
+
 // What a step did to the numbers: nothing was to do, a number was raised, or one would pass the top.
 pub enum Step {
     Kept,
