@@ -370,14 +370,19 @@ fn take_room(sheet: &mut [u16], u: usize) {
     }
 }
 
-// The steps from the low sides among some sides.
+// The steps from a side, if it is a low one.
+fn take_side(sheet: &mut [u16], side: usize) {
+    if side % 2 == 0 {
+        take_room(sheet, side / 2);
+    }
+}
+
+// The steps from some sides.
 fn take_sides(sheet: &mut [u16], start: usize, end: usize) {
     let mut p = start;
     while p < end {
         let side = get(sheet, SIDES, p);
-        if side % 2 == 0 {
-            take_room(sheet, side / 2);
-        }
+        take_side(sheet, side);
         p += 1;
     }
 }

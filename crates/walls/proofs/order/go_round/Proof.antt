@@ -1,59 +1,48 @@
+use mathlib.Core.Path.{_≡_}
+use Prim.Native.Nat.{_-_}
+use lib.ListN.{length}
+use borrow.Author.Needs.{needs}
 use Rattle.walls.proofs.order.go_round.Statement.{statement}
 use Rattle.walls.proofs.order.go_round.Tie as tie
-use Rattle.walls.proofs.order.go_round.Reads as reads
-use Rattle.walls.proofs.order.go_round.Lts as lts
-use Rattle.walls.proofs.order.get.Reads as get-reads
-use Rattle.walls.proofs.order.go_on.Reads as go-on-reads
 
 abbrev Inv-loop : tie.InvT-loop
-Inv-loop sheet₀ first i₀ sheet i = ?h1
+Inv-loop sheet₀ first i₀ sheet i = length sheet ≡ length sheet₀
 
 abbrev μ-loop : tie.MeasureT-loop
-μ-loop sheet₀ first i₀ sheet i = ?h2
+μ-loop sheet₀ first i₀ sheet i = 128 - i
 
--- src/order.rt:459:9
 get-requires : tie.Need-get-requires Inv-loop μ-loop
-get-requires c κs = ?h3
+get-requires c κs = search needs
 
--- src/order.rt:461:5
 loop-holds : tie.Need-loop-holds Inv-loop μ-loop
-loop-holds c = ?h4
+loop-holds c = search needs
 
--- src/order.rt:462:9
 go-on-requires : tie.Need-go-on-requires Inv-loop μ-loop
-go-on-requires c κs = ?h5
+go-on-requires c κs = search needs
 
--- src/order.rt:463:12
 get-requires-2 : tie.Need-get-requires-2 Inv-loop μ-loop
-get-requires-2 c κs = ?h6
+get-requires-2 c κs = search needs
 
--- src/order.rt:464:13
 same-length : tie.Need-same-length Inv-loop μ-loop
-same-length c = ?h7
+same-length c = search needs
 
--- src/order.rt:464:13
 returns : tie.Need-returns Inv-loop μ-loop
-returns c = ?h8
+returns c = search needs
 
--- src/order.rt:466:9
 add-i : tie.Need-add-i Inv-loop μ-loop
-add-i c = ?h9
+add-i c = search needs
 
--- src/order.rt:461:5
 loop-less : tie.Need-loop-less Inv-loop μ-loop
-loop-less c = ?h10
+loop-less c = search needs
 
--- src/order.rt:461:5
 loop-again : tie.Need-loop-again Inv-loop μ-loop
-loop-again c = ?h11
+loop-again c = search needs
 
--- src/order.rt:458:1
 same-length-2 : tie.Need-same-length-2 Inv-loop μ-loop
-same-length-2 c = ?h12
+same-length-2 c = search needs
 
--- src/order.rt:458:1
 returns-2 : tie.Need-returns-2 Inv-loop μ-loop
-returns-2 c = ?h13
+returns-2 c = search needs
 
 pub go-round-spec : {M : Type 1} → statement M
 go-round-spec =

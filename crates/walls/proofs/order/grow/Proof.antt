@@ -1,59 +1,48 @@
+use mathlib.Core.Path.{_≡_}
+use Prim.Native.Nat.{_-_}
+use lib.ListN.{length}
+use borrow.Author.Needs.{needs}
 use Rattle.walls.proofs.order.grow.Statement.{statement}
 use Rattle.walls.proofs.order.grow.Tie as tie
-use Rattle.walls.proofs.order.grow.Reads as reads
-use Rattle.walls.proofs.order.grow.Lts as lts
-use Rattle.walls.proofs.order.get.Reads as get-reads
-use Rattle.walls.proofs.order.spread.Reads as spread-reads
 
 abbrev Inv-loop : tie.InvT-loop
-Inv-loop sheet₀ far near ends nbr kind used first p₀ sheet p = ?h1
+Inv-loop sheet₀ far near ends nbr kind used first p₀ sheet p = length sheet ≡ length sheet₀
 
 abbrev μ-loop : tie.MeasureT-loop
-μ-loop sheet₀ far near ends nbr kind used first p₀ sheet p = ?h2
+μ-loop sheet₀ far near ends nbr kind used first p₀ sheet p = 128 - p
 
--- src/order.rt:199:5
 loop-holds : tie.Need-loop-holds Inv-loop μ-loop
-loop-holds c = ?h3
+loop-holds c = search needs
 
--- src/order.rt:200:12
 get-requires : tie.Need-get-requires Inv-loop μ-loop
-get-requires c κs = ?h4
+get-requires c κs = search needs
 
--- src/order.rt:201:13
 same-length : tie.Need-same-length Inv-loop μ-loop
-same-length c = ?h5
+same-length c = search needs
 
--- src/order.rt:201:13
 returns : tie.Need-returns Inv-loop μ-loop
-returns c = ?h6
+returns c = search needs
 
--- src/order.rt:203:13
 get-requires-2 : tie.Need-get-requires-2 Inv-loop μ-loop
-get-requires-2 c κs = ?h7
+get-requires-2 c κs = search needs
 
--- src/order.rt:204:9
 spread-requires : tie.Need-spread-requires Inv-loop μ-loop
-spread-requires c κs = ?h8
+spread-requires c κs = search needs
 
--- src/order.rt:205:9
 add-p : tie.Need-add-p Inv-loop μ-loop
-add-p c = ?h9
+add-p c = search needs
 
--- src/order.rt:199:5
 loop-less : tie.Need-loop-less Inv-loop μ-loop
-loop-less c = ?h10
+loop-less c = search needs
 
--- src/order.rt:199:5
 loop-again : tie.Need-loop-again Inv-loop μ-loop
-loop-again c = ?h11
+loop-again c = search needs
 
--- src/order.rt:188:1
 same-length-2 : tie.Need-same-length-2 Inv-loop μ-loop
-same-length-2 c = ?h12
+same-length-2 c = search needs
 
--- src/order.rt:188:1
 returns-2 : tie.Need-returns-2 Inv-loop μ-loop
-returns-2 c = ?h13
+returns-2 c = search needs
 
 pub grow-spec : {M : Type 1} → statement M
 grow-spec =
