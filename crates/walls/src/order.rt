@@ -2,7 +2,10 @@
 // Only the time goes by this order and never the answer, so the functions here say little more than that they are safe and return.
 ghost use Prim.Native.Nat.{_<_, _≤_};
 ghost use lib.ListN.{length};
-use stars::held::{start_of, end_of, to_at, kind_at};
+use stars::held::end_of;
+use stars::held::kind_at;
+use stars::held::start_of;
+use stars::held::to_at;
 
 // How many visits were written, and where the last part of them, a circle of walls, starts: without a circle at their end.
 pub struct Span {
@@ -12,31 +15,43 @@ pub struct Span {
 
 // The sheet's parts, each by where it starts. First some counts: sides found, walls found, walls ready, visits written, and the wall now stood at.
 const COUNTS: usize = 0;
+
 const FOUND: usize = 0;
+
 const WALLS: usize = 1;
+
 const READY: usize = 2;
+
 const MANY: usize = 3;
+
 const HERE: usize = 4;
 // The sides in the order found, wall by wall, and beside each the visit by which it was reached, plus 1; 0 for the first of a wall.
 const SIDES: usize = 160;
+
 const VIA: usize = 320;
 // The wall of each side, from 1 on, and where in the order found each wall starts.
 const WALL: usize = 480;
+
 const START: usize = 640;
 // How many steps lead to a wall from walls that are not taken yet, and the walls that wait for none.
 const NEED: usize = 800;
+
 const WAITING: usize = 960;
 // The steps that start from a room's low side: the first of each room, and the next of each step.
 const FIRST: usize = 1120;
+
 const NEXT: usize = 1960;
 // The walls that a step, the `before` of a visit, leads from and to.
 const FROM: usize = 2820;
+
 const TO: usize = 3680;
 // Among walls that run in a circle: a step that leads to a wall, and the step on from it.
 const BACK: usize = 1280;
+
 const ONWARD: usize = 1440;
 // The room of each place, and the visits.
 const OWNER: usize = 1600;
+
 const VISITS: usize = 4540;
 
 // The number in a cell of a part of the sheet, and 0 past its end.
@@ -558,5 +573,8 @@ pub fn order_of<'a>(
     let many = least(get(&sheet, COUNTS, MANY), visits.len());
     copy_part(owner, &sheet, OWNER, nbr.len());
     copy_part(visits, &sheet, VISITS, many);
-    Span { many: many, again: least(circle, many) }
+    Span {
+        many: many,
+        again: least(circle, many),
+    }
 }
