@@ -13,45 +13,64 @@ pub struct Span {
     pub again: usize,
 }
 
-// The sheet's parts, each by where it starts. First some counts: sides found, walls found, walls ready, visits written, and the wall now stood at.
+// The work is done on one sheet of numbers. Its parts follow, each by where it starts; first the counts.
 const COUNTS: usize = 0;
 
+// Among the counts: the sides found.
 const FOUND: usize = 0;
 
+// The walls found.
 const WALLS: usize = 1;
 
+// The walls that were set waiting.
 const READY: usize = 2;
 
+// The visits written.
 const MANY: usize = 3;
 
+// The wall now stood at.
 const HERE: usize = 4;
-// The sides in the order found, wall by wall, and beside each the visit by which it was reached, plus 1; 0 for the first of a wall.
+
+// The sides in the order found, wall by wall.
 const SIDES: usize = 160;
 
+// The visit by which each of these was reached, plus 1; 0 for the first of a wall.
 const VIA: usize = 320;
-// The wall of each side, from 1 on, and where in the order found each wall starts.
+
+// The wall of each side, from 1 on; 0 while it is not found.
 const WALL: usize = 480;
 
+// Where each wall starts in the order found. It ends where the next starts.
 const START: usize = 640;
-// How many steps lead to a wall from walls that are not taken yet, and the walls that wait for none.
+
+// How many steps lead to a wall from walls that are not taken yet.
 const NEED: usize = 800;
 
+// The walls that wait to be taken, since nothing is left before them.
 const WAITING: usize = 960;
-// The steps that start from a room's low side: the first of each room, and the next of each step.
+
+// The first step from a room's low side; 0 for none.
 const FIRST: usize = 1120;
 
-const NEXT: usize = 1960;
-// The walls that a step, the `before` of a visit, leads from and to.
-const FROM: usize = 2820;
-
-const TO: usize = 3680;
-// Among walls that run in a circle: a step that leads to a wall, and the step on from it.
+// Among walls left over, a step that leads to a wall.
 const BACK: usize = 1280;
 
+// Among walls left over, the step on from a wall.
 const ONWARD: usize = 1440;
-// The room of each place, and the visits.
+
+// The room of each place.
 const OWNER: usize = 1600;
 
+// The next step from the same low side; 0 for none.
+const NEXT: usize = 1960;
+
+// The wall that a step, one `before` of a visit, leads from.
+const FROM: usize = 2820;
+
+// The wall that a step leads to.
+const TO: usize = 3680;
+
+// The visits. There are 1,420 at most: two for each side and for each place, one for each room, and a circle's.
 const VISITS: usize = 4540;
 
 // The number in a cell of a part of the sheet, and 0 past its end.
@@ -569,12 +588,12 @@ pub fn order_of<'a>(
     }
     let mut sheet = [0u16; 6080];
     survey(&mut sheet, far, near, cross, ends, nbr, kind, count);
-    let circle = arrange(&mut sheet);
+    let again = arrange(&mut sheet);
     let many = least(get(&sheet, COUNTS, MANY), visits.len());
     copy_part(owner, &sheet, OWNER, nbr.len());
     copy_part(visits, &sheet, VISITS, many);
     Span {
         many: many,
-        again: least(circle, many),
+        again: least(again, many),
     }
 }
