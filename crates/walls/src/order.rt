@@ -301,10 +301,10 @@ fn note_step(sheet: &mut [u16], u: usize, v: usize, step: usize)
 fn note_contact<'a>(sheet: &mut [u16], nbr: &'a [u16], kind: &'a [u8], cross: u8, k: usize)
     requires { ⌜ k < 65536 ⌝ }
 {
-    let u = get(sheet, OWNER, k);
-    let v = to_at(nbr, k);
     if kind_at(kind, k) == cross {
+        let v = to_at(nbr, k);
         if 4 <= v {
+            let u = get(sheet, OWNER, k);
             note_step(sheet, u, v, 2 * k + 2);
             note_step(sheet, v, u, 2 * k + 3);
         }
