@@ -13,8 +13,8 @@ use Rattle.walls.specs.declared.Step.{Step}
 use Rattle.walls.specs.declared.Step.the-variants.{Kept, Raised, Over}
 use Rattle.floor.specs.Walls.{Rule, Numbers, Respects, Circle}
 use Rattle.floor.specs.Walls.{at}
-use Rattle.floor.specs.Walls.Relax.{total, Reached, reached-numbers}
-use Rattle.walls.specs.Steps.{Ran, Grew, Capped, Passed, Enough, Answers}
+use Rattle.floor.specs.Walls.Relax.{total, Reached, reached-numbers, ones-reached}
+use Rattle.walls.specs.Steps.{Ran, Climbs, Rose, Grew, Capped, Passed, Enough, Answers, isOver}
 
 -- the first i numbers are v
 abbrev pub Filled : List ℕ → ℕ → ℕ → Type 0
@@ -74,3 +74,32 @@ pub ran-circle : (E : List Rule) (s : Step) (f f₁ f′ : List ℕ) (top n : �
 ran-circle E s f f₁ f′ top n e p k en l q =
     let o : Ran Over E f f₁ top = rw e at p in
     (passed-circle E top en (o E (λ r m. m) k), rw (← l) q)
+
+-- rules run in some order from ones, none past the top: what was raised is reached, and is not above the top
+module _ (E : List Rule) (s : Step) (f f′ : List ℕ) (top n : ℕ) (e : f ≡ replicate n 1) (p : Climbs s E f f′ top) (no : isOver s ≡ false) where
+  rose : Rose E f f′ top
+  rose = go s p no
+    where
+      go : (t : Step) → Climbs t E f f′ top → isOver t ≡ false → Rose E f f′ top
+      go Kept q z = q
+      go Raised q z = q
+      go Over q z = absurd (let y : _≡_ {A = ℕ} 0 1 = cc in omega arith)
+
+  pub climbed-reached : Reached E f′
+  climbed-reached = rose .reach (rw e (ones-reached E n))
+
+  pub climbed-capped : 1 ≤ top → Capped f′ top
+  climbed-capped t = rose .capped (rw e (ones-capped n top t))
+
+-- rules run in some order, one past the top: a circle
+pub climbed-circle : (E : List Rule) (s : Step) (f f₁ f′ : List ℕ) (top n m : ℕ) → f ≡ replicate n 1 → Climbs s E f f₁ top → isOver s ≡ true → Enough E top
+    → length f₁ ≡ m → f′ ≡ replicate (length f₁) 0 → Answers false E f′ m
+climbed-circle E s f f₁ f′ top n m e p o en l q = (passed-circle E top en (go s p o), rw (← l) q)
+  where
+    go : (t : Step) → Climbs t E f f₁ top → isOver t ≡ true → Passed E top
+    go Kept c z = absurd (let y : _≡_ {A = ℕ} 0 1 = cc in omega arith)
+    go Raised c z = absurd (let y : _≡_ {A = ℕ} 0 1 = cc in omega arith)
+    go Over c z = c (rw e (ones-reached E n))
+
+pub answers-same : (E : List Rule) (b : Bool) (f : List ℕ) (m n : ℕ) → m ≡ n → Answers b E f m → Answers b E f n
+answers-same E b f m n e a = rw (← e) a

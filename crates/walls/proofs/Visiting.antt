@@ -10,14 +10,14 @@ use lib.ListN.{length, getD}
 use Rattle.floor.specs.Lists.Laws.{all-mem, mem-getD}
 use Rattle.floor.specs.Jobs.{Entry, Star, Job}
 use Rattle.floor.specs.Walls.{Rule, before, low, high, entryRules, rules}
-use Rattle.floor.specs.Walls.Rules.{Told, Named, entry-every, every-told}
+use Rattle.floor.specs.Walls.Rules.{Told, Named, entry-every, every-told, job-walk}
 use Rattle.stars.specs.Held.{toAt, entryAt, cells, startOf, endOf, heldStar, starsIn}
 use Rattle.stars.specs.Pairs.{pair}
 use Rattle.stars.proofs.Holding.{cells-more, star-in, length-stars}
 use Rattle.walls.specs.declared.Step.{Step}
 use Rattle.walls.specs.declared.Step.the-variants.{Kept}
 use Rattle.walls.specs.declared.Direction.{Direction}
-use Rattle.walls.specs.Steps.{Rose, Among, Ran, Climbs, both}
+use Rattle.walls.specs.Steps.{Rose, Among, Ran, Climbs, Enough, both}
 use Rattle.walls.specs.Jobs.{axisOf, entryNamed, starNamed, named}
 use Rattle.walls.proofs.Running.{ran-climbs, climbs-both}
 
@@ -87,3 +87,11 @@ module _ (ends nbr kind : List ℕ) (n : ℕ) where
 pub climbs-more : (E : List Rule) (f f₁ f₂ : List ℕ) (top : ℕ) (s t r : Step) → Climbs s E f f₁ top → Climbs t E f₁ f₂ top → r ≡ both s t
     → Climbs r E f f₂ top
 climbs-more E f f₁ f₂ top s t r p q e = rw e (climbs-both E f f₁ f₂ top s t p q)
+
+-- where numbers can be put on a job's walls, no walk passes n + 1
+pub job-enough : (ends nbr kind : List ℕ) (n m top : ℕ) (w : Direction) → named m (starsIn n 0 ends nbr kind) ≡ true → m ≡ 2 * (n + 4) → top ≡ n + 1
+    → Enough (rules (axisOf w) (starsIn n 0 ends nbr kind)) top
+job-enough ends nbr kind n m top w b e q g r s v walk =
+    let j : Job = starsIn n 0 ends nbr kind in
+    let l : length j ≡ n = length-stars n 0 ends nbr kind in
+    omega (arith, job-walk (axisOf w) j (all-named m j b (omega arith)) g r s v walk)

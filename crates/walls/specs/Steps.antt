@@ -69,6 +69,12 @@ both Raised Raised = Raised
 both Raised Over = Over
 both Over t = Over
 
+-- a number would pass the top
+abbrev pub isOver : Step → Bool
+isOver Kept = false
+isOver Raised = false
+isOver Over = true
+
 -- where numbers can be put on the walls, no walk passes the top
 abbrev pub Enough : List Rule → ℕ → Type 0
 Enough E top = (g : ℕ → ℕ) → Respects E g → (s v : ℕ) → Walk E s v → v ≤ top

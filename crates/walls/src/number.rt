@@ -205,3 +205,87 @@ fn go_round<'a>(
     }
     done
 }
+
+// The visits of an order, and then those of its circle, if it has one, again and again.
+fn climb_all<'a>(
+    f: &mut [u16],
+    way: Direction,
+    ends: &'a [u16],
+    nbr: &'a [u16],
+    kind: &'a [u8],
+    count: usize,
+    top: u16,
+) -> Step
+    requires { ⌜ (count < 256) × (length (now f) ≡ 2 * (count + 4)) × (named (length (now f)) (starsIn count 0 (now ends) (now nbr) (now kind)) ≡ true) ⌝ }
+    ensures { λ r. ⌜ Climbs r (rules (axisOf way) (starsIn count 0 (now (ends .entry)) (now (nbr .entry)) (now (kind .entry))))
+        (now (f .entry)) (now (f .exit)) top ⌝ }
+{
+    let far = crate::rules::far_of(way);
+    let near = crate::rules::near_of(way);
+    let cross = crate::rules::cross_of(way);
+    let mut owner = [0u16; 360];
+    let mut visits = [0u16; 1440];
+    let span = crate::order::order_of(
+        far,
+        near,
+        cross,
+        ends,
+        nbr,
+        kind,
+        count,
+        &mut owner,
+        &mut visits,
+    );
+    let many = span.many;
+    let again = span.again;
+    let once = climb(
+        f,
+        way,
+        ends,
+        nbr,
+        kind,
+        count,
+        &owner,
+        &visits,
+        0,
+        many,
+        top,
+    );
+    let round = go_round(
+        f,
+        way,
+        ends,
+        nbr,
+        kind,
+        count,
+        &owner,
+        &visits,
+        again,
+        many,
+        top,
+    );
+    crate::steps::both_of(once, round)
+}
+
+// The numbers of the text, left in f; or false where the walls run in a circle, and noughts.
+pub fn number<'a>(
+    f: &mut [u16],
+    way: Direction,
+    ends: &'a [u16],
+    nbr: &'a [u16],
+    kind: &'a [u8],
+    count: usize,
+) -> bool
+    requires { ⌜ (count < 256) × (length (now f) ≡ 2 * (count + 4)) × (named (length (now f)) (starsIn count 0 (now ends) (now nbr) (now kind)) ≡ true) ⌝ }
+    ensures { λ r. ⌜ Answers r (rules (axisOf way) (starsIn count 0 (now (ends .entry)) (now (nbr .entry)) (now (kind .entry))))
+        (now (f .exit)) (length (now (f .entry))) ⌝ }
+{
+    let top = (count + 1) as u16;
+    fill(f, 1);
+    let did = climb_all(f, way, ends, nbr, kind, count, top);
+    if crate::steps::is_over(did) {
+        fill(f, 0);
+        return false;
+    }
+    settle(f, way, ends, nbr, kind, count, top)
+}

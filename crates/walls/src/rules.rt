@@ -13,7 +13,7 @@ use crate::Direction;
 use crate::Step;
 
 // The kind that joins a room's high wall to a neighbour's low one.
-fn far_of(way: Direction) -> u8
+pub fn far_of(way: Direction) -> u8
     ensures { λ r. ⌜ r ≡ axisOf way .far ⌝ }
 {
     match way {
@@ -23,7 +23,7 @@ fn far_of(way: Direction) -> u8
 }
 
 // The kind that joins a room's low wall to a neighbour's high one.
-fn near_of(way: Direction) -> u8
+pub fn near_of(way: Direction) -> u8
     ensures { λ r. ⌜ r ≡ axisOf way .near ⌝ }
 {
     match way {
@@ -33,7 +33,7 @@ fn near_of(way: Direction) -> u8
 }
 
 // The kind that puts the low wall of each before the high wall of the other.
-fn cross_of(way: Direction) -> u8
+pub fn cross_of(way: Direction) -> u8
     ensures { λ r. ⌜ r ≡ axisOf way .cross ⌝ }
 {
     match way {

@@ -3,7 +3,7 @@ ghost use mathlib.Core.Path.{_≡_};
 ghost use mathlib.Core.List.{[], _∷_};
 ghost use Prim.Native.Nat.{_<_};
 ghost use lib.ListN.{length};
-ghost use Rattle.walls.specs.Steps.{Lifts, Ran, ruleOf, both};
+ghost use Rattle.walls.specs.Steps.{Lifts, Ran, ruleOf, both, isOver};
 use crate::Step;
 
 // A number, made wide.
@@ -25,6 +25,17 @@ pub fn both_of(first: Step, then: Step) -> Step
             Step::Over => Step::Over,
         },
         Step::Over => Step::Over,
+    }
+}
+
+// Whether a number would pass the top.
+pub fn is_over(step: Step) -> bool
+    ensures { λ r. ⌜ r ≡ isOver step ⌝ }
+{
+    match step {
+        Step::Kept => false,
+        Step::Raised => false,
+        Step::Over => true,
     }
 }
 
