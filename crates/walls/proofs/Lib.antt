@@ -3,3 +3,4 @@ pub mod Running
 pub mod Telling
 pub mod Visiting
 pub mod Settling
+pub mod Numbering

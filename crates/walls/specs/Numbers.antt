@@ -1,10 +1,9 @@
 -- The numbers of both directions, and how they are handed back. Assumes nothing.
 use mathlib.Core.Bool.{Bool, true, false, cond, _&&_}
 use mathlib.Core.Option.{Option, none, some}
-use mathlib.Core.List.{List}
+use mathlib.Core.List.{List, _++_}
 use Prim.Native.Nat.{ℕ}
-use lib.ListN.{length, replicate}
-use lib.Seq.{sets}
+use lib.ListN.{length, replicate, drop}
 use Rattle.floor.specs.Lists.{all}
 use Rattle.floor.specs.Jobs.{Entry, Star, Job, isVertex, test2}
 use Rattle.floor.specs.Walls.{Axis, upright, level, jobNumbers}
@@ -26,7 +25,7 @@ noughts = replicate 128 0
 
 -- numbers from the first place on, noughts behind them
 abbrev pub placed : List ℕ → List ℕ
-placed f = sets noughts 0 f
+placed f = f ++ drop (length f) noughts
 
 -- the numbers of one direction, as they are held; none: noughts
 unfoldable pub numbersHeld : Option (List ℕ) → Numbers

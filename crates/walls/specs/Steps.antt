@@ -1,9 +1,9 @@
 -- What the steps of the code promise. Assumes nothing.
 use mathlib.Core.Path.{_≡_}
 use mathlib.Core.Bool.{Bool, true, false}
-use mathlib.Core.List.{List, List·Memᴰ}
+use mathlib.Core.List.{List, _++_, List·Memᴰ}
 use Prim.Native.Nat.{ℕ, zero, suc, _+_, _≤_, _<_}
-use lib.ListN.{length, set, replicate}
+use lib.ListN.{length, set, replicate, drop}
 use Rattle.walls.specs.declared.Step.{Step}
 use Rattle.walls.specs.declared.Step.the-variants.{Kept, Raised, Over}
 use Rattle.floor.specs.Walls.{Rule, same, before, Numbers, Respects, Circle, at}
@@ -83,3 +83,9 @@ Enough E top = (g : ℕ → ℕ) → Respects E g → (s v : ℕ) → Walk E s v
 abbrev pub Answers : Bool → List Rule → List ℕ → ℕ → Type 0
 Answers true E f n = Numbers E (at f) × (length f ≡ n)
 Answers false E f n = Circle E × (f ≡ replicate n 0)
+
+-- the answer of n sides, in front of a list; what is behind stays
+pub record Fronts (b : Bool) (E : List Rule) (n : ℕ) (l l′ : List ℕ) : Type 0 where
+  pub front : List ℕ
+  pub answers : Answers b E front n
+  pub is : l′ ≡ front ++ drop n l

@@ -1,4 +1,16 @@
 // The walls of held stars and their numbers: passes over the rules, until every rule is met or a number is too large.
+ghost use mathlib.Core.Path.{_≡_};
+ghost use mathlib.Core.Bool.{true, _&&_};
+ghost use Prim.Native.Nat.{_+_, _*_, _≤_, _<_};
+ghost use lib.ListN.{length, replicate};
+ghost use Rattle.floor.specs.Jobs.{test2};
+ghost use Rattle.floor.specs.Walls.{rules};
+ghost use Rattle.stars.specs.Held.{starsIn, jobOf};
+ghost use Rattle.walls.specs.Jobs.{axisOf, named};
+ghost use Rattle.walls.specs.Steps.{Fronts};
+ghost use Rattle.walls.specs.Numbers.{vertices, numbersIn, numbersHeld, noWalls, wallsOf};
+use stars::Stars;
+
 mod steps; // steps.rt: one rule, and what it does to the numbers
 mod rules; // rules.rt: the rules of an entry, a star, a room, a job
 mod vertices; // vertices.rt: whether every neighbour is a vertex of the job
@@ -47,4 +59,107 @@ pub struct Walls {
     pub answer: Answer,
     pub uprights: Uprights,
     pub levels: Levels,
+}
+
+// Whether the stars are a job that can be numbered: as many rooms as test 2 allows, and every neighbour a vertex.
+fn can_number(stars: Stars) -> bool
+    ensures { λ r. ⌜ r ≡ (test2 (length (jobOf stars)) && vertices (jobOf stars)) ⌝ }
+{
+    let count = fields::wide(stars.count);
+    if count == 0 {
+        return false;
+    }
+    if 60 < count {
+        return false;
+    }
+    vertices::all_named(
+        &stars.ends,
+        &stars.nbr,
+        &stars.kind,
+        count,
+        2 * (count + 4),
+    )
+}
+
+// Noughts, one for each side of 64 vertices.
+fn noughts() -> [u16; 128]
+    ensures { λ r. ⌜ r ≡ replicate 128 0 ⌝ }
+{
+    [0; 128]
+}
+
+// The numbers in one direction, left in front of a list.
+fn number_front<'a>(
+    list: &mut [u16],
+    way: Direction,
+    ends: &'a [u16],
+    nbr: &'a [u16],
+    kind: &'a [u8],
+    count: usize,
+) -> bool
+    requires { ⌜ (count < 256) × (2 * (count + 4) ≤ length (now list)) × (named (2 * (count + 4)) (starsIn count 0 (now ends) (now nbr) (now kind)) ≡ true) ⌝ }
+    ensures { λ r. ⌜ Fronts r (rules (axisOf way) (starsIn count 0 (now (ends .entry)) (now (nbr .entry)) (now (kind .entry))))
+        (2 * (count + 4)) (now (list .entry)) (now (list .exit)) ⌝ }
+{
+    let sides = 2 * (count + 4);
+    number::number(&mut list[..sides], way, ends, nbr, kind, count)
+}
+
+// The numbers in one direction.
+fn numbers_in(stars: Stars, way: Direction) -> Numbers
+    ensures { λ r. ⌜ r ≡ numbersHeld (numbersIn (axisOf way) (jobOf stars)) ⌝ }
+{
+    let mut list = noughts();
+    if !can_number(stars) {
+        return Numbers {
+            found: false,
+            list: list,
+        };
+    }
+    let count = fields::wide(stars.count);
+    let found = number_front(
+        &mut list,
+        way,
+        &stars.ends,
+        &stars.nbr,
+        &stars.kind,
+        count,
+    );
+    Numbers {
+        found: found,
+        list: list,
+    }
+}
+
+// That a direction has no numbers.
+fn no_walls() -> Walls
+    ensures { λ r. ⌜ r ≡ noWalls ⌝ }
+{
+    let none = noughts();
+    Walls {
+        answer: Answer::Circle,
+        uprights: Uprights(none),
+        levels: Levels(none),
+    }
+}
+
+// The numbers in both directions, or that the walls run in a circle.
+pub fn walls_of(stars: Stars) -> Walls
+    ensures { λ r. ⌜ r ≡ wallsOf (jobOf stars) ⌝ }
+{
+    let upright = numbers_in(stars, Direction::Upright);
+    if !upright.found {
+        return no_walls();
+    }
+    let level = numbers_in(stars, Direction::Level);
+    if !level.found {
+        return no_walls();
+    }
+    let xs = upright.list;
+    let ys = level.list;
+    Walls {
+        answer: Answer::Numbered,
+        uprights: Uprights(xs),
+        levels: Levels(ys),
+    }
 }

@@ -1,0 +1,152 @@
+-- The numbers of any held stars. Assumes nothing.
+use mathlib.Core.Path.{_≡_, refl, sym, ap, _∙_}
+use mathlib.Core.Bool.{Bool, true, false, not, cond, _&&_}
+use mathlib.Core.Option.{Option, none, some}
+use mathlib.Core.List.{List, [], _∷_, _++_}
+use Prim.Native.Nat.{ℕ, zero, suc, _+_, _-_, _*_, _≤_, _<_}
+use native.Mathlib.Omega.{arith}
+use borrow.Author.Tests.{le-leb, lt-leb, leb-true, ltb-true, lt-ltb, not-true, not-false}
+use lib.Dec.{leb, ltb}
+use lib.ListN.{length, replicate, take, drop, length-replicate}
+use lib.Seq.{length-take-le}
+use Rattle.floor.specs.Lists.{all}
+use Rattle.floor.specs.Lists.Laws.{same-test, and-left, and-right}
+use Rattle.floor.specs.Jobs.{Entry, Star, Job, isVertex, test2}
+use Rattle.floor.specs.Walls.{Rule, Axis, high, rules, jobNumbers}
+use Rattle.floor.specs.Walls.Relax.{Right, right-unique}
+use Rattle.floor.specs.Walls.Rules.{jobNumbers-right}
+use Rattle.stars.specs.declared.Stars.{Stars}
+use Rattle.stars.specs.Held.{starsIn, jobOf}
+use Rattle.stars.proofs.Holding.{length-stars}
+use Rattle.walls.specs.Steps.{Answers, Fronts}
+use Rattle.walls.specs.Jobs.{entryNamed, starNamed, named}
+use Rattle.walls.specs.Numbers.{vertices, numbersIn, noughts, placed, numbersHeld, noWalls, wallsFrom}
+use Rattle.walls.specs.declared.Answer.the-variants.{Numbered, Circle}
+use Rattle.walls.specs.declared.Numbers.{Numbers}
+use Rattle.walls.specs.declared.Walls.{Walls}
+use Rattle.walls.proofs.Visiting.{all-named}
+
+module _ {A : Type 0} where
+  all-same : (p q : A → Bool) (xs : List A) → ((x : A) → p x ≡ q x) → all p xs ≡ all q xs
+  unfolding all
+  all-same p q [] h = refl
+  all-same p q (x ∷ xs) h = rw (h x, all-same p q xs h)
+
+-- a neighbour is a vertex exactly if its sides are among those of the vertices
+vertices-named : (j : Job) → vertices j ≡ named (2 * (length j + 4)) j
+unfolding vertices named starNamed isVertex
+vertices-named j = all-same (all (λ (e : Entry). isVertex j (e .to))) (all (entryNamed (2 * (length j + 4)))) j
+    (λ s. all-same (λ (e : Entry). isVertex j (e .to)) (entryNamed (2 * (length j + 4))) s one)
+  where
+    one : (e : Entry) → isVertex j (e .to) ≡ entryNamed (2 * (length j + 4)) e
+    one e = same-test (leb (e .to) (length j + 3)) (ltb (high (e .to)) (2 * (length j + 4)))
+        (λ h. lt-ltb (high (e .to)) (2 * (length j + 4)) (omega (arith, leb-true (e .to) (length j + 3) h)))
+        (λ h. le-leb (e .to) (length j + 3) (omega (arith, ltb-true (high (e .to)) (2 * (length j + 4)) h)))
+
+-- noughts in front of noughts
+noughts-behind : (n m : ℕ) → n ≤ m → replicate {A = ℕ} n 0 ++ drop n (replicate {A = ℕ} m 0) ≡ replicate {A = ℕ} m 0
+noughts-behind zero m h = refl
+noughts-behind (suc n) zero h = absurd (omega arith)
+noughts-behind (suc n) (suc m) h = ap (λ (l : List ℕ). 0 ∷ l) (noughts-behind n m (omega arith))
+
+module _ (h : Stars) where
+  abbrev good : Bool
+  good = test2 (length (jobOf h)) && vertices (jobOf h)
+
+  pub held-none : (b : Bool) (a : Axis) (l : List ℕ) → b ≡ good → not b ≡ true → l ≡ replicate 128 0
+      → record { found = false; list = l } ≡ numbersHeld (numbersIn a (jobOf h))
+  unfolding numbersHeld numbersIn
+  held-none b a l q f e = let g : good ≡ false = sym q ∙ not-true b f in rw (g, e)
+
+module _ (h : Stars) (n : ℕ) (ec : n ≡ h .count) where
+  held-job : starsIn n 0 (h .ends) (h .nbr) (h .kind) ≡ jobOf h
+  unfolding jobOf
+  held-job = rw ec
+
+  held-rooms : length (jobOf h) ≡ n
+  held-rooms = rw (← held-job) (length-stars n 0 (h .ends) (h .nbr) (h .kind))
+
+  pub no-room : n ≡ 0 → false ≡ good h
+  unfolding test2
+  no-room z = rw (held-rooms, z)
+
+  pub many-rooms : 60 < n → false ≡ good h
+  unfolding test2
+  many-rooms z = rw (held-rooms, le-leb 1 n (omega arith), lt-leb n 60 z)
+
+  pub some-rooms : (r : Bool) → (n ≡ 0 → ⊥) → n ≤ 60 → r ≡ named (2 * (n + 4)) (starsIn n 0 (h .ends) (h .nbr) (h .kind)) → r ≡ good h
+  unfolding test2
+  some-rooms r x y q =
+      rw (vertices-named (jobOf h), held-rooms, le-leb 1 n (omega arith), le-leb n 60 y) (rw held-job at q)
+
+  module _ (b : Bool) (q : b ≡ good h) (no : not b ≡ false) where
+    both-good : good h ≡ true
+    both-good = sym q ∙ not-false b no
+
+    pub rooms-fit : n ≤ 60
+    unfolding test2
+    rooms-fit =
+        let t : test2 (length (jobOf h)) ≡ true = and-left (test2 (length (jobOf h))) (vertices (jobOf h)) both-good in
+        omega (arith, held-rooms, leb-true (length (jobOf h)) 60 (and-right (leb 1 (length (jobOf h))) (leb (length (jobOf h)) 60) t))
+
+    pub rooms-hold : (l : List ℕ) → l ≡ replicate 128 0 → 2 * (n + 4) ≤ length l
+    rooms-hold l e′ = rw e′ (omega (arith, rooms-fit, length-replicate {A = ℕ} 128 0))
+
+    pub all-vertices : named (2 * (n + 4)) (starsIn n 0 (h .ends) (h .nbr) (h .kind)) ≡ true
+    all-vertices =
+        let v : vertices (jobOf h) ≡ true = and-right (test2 (length (jobOf h))) (vertices (jobOf h)) both-good in
+        rw held-job (rw held-rooms at (sym (vertices-named (jobOf h)) ∙ v))
+
+    one-way : (a : Axis) → numbersIn a (jobOf h) ≡ jobNumbers a (jobOf h)
+    unfolding numbersIn
+    one-way a = rw both-good
+
+    right : (a : Axis) → Right (rules a (jobOf h)) (2 * (n + 4)) (jobNumbers a (jobOf h))
+    right a = rw held-rooms at (jobNumbers-right a (jobOf h) (all-named (2 * (n + 4)) (jobOf h) (rw held-job at all-vertices) (omega (arith, held-rooms))))
+
+    pub held-numbers : (a : Axis) (r : Bool) (l l′ : List ℕ) → l ≡ replicate 128 0 → Fronts r (rules a (starsIn n 0 (h .ends) (h .nbr) (h .kind))) (2 * (n + 4)) l l′
+        → record { found = r; list = l′ } ≡ numbersHeld (numbersIn a (jobOf h))
+    unfolding numbersHeld
+    held-numbers a r l l′ e x = go r (x .front) (rw held-job at (x .answers)) (rw e at (x .is))
+      where
+        go : (b : Bool) (f : List ℕ) → Answers b (rules a (jobOf h)) f (2 * (n + 4)) → l′ ≡ f ++ drop (2 * (n + 4)) (replicate 128 0)
+            → record { found = b; list = l′ } ≡ numbersHeld (numbersIn a (jobOf h))
+        go true f y z =
+            let u : jobNumbers a (jobOf h) ≡ some f = right-unique (rules a (jobOf h)) (2 * (n + 4)) (jobNumbers a (jobOf h)) (some f) (right a) y in
+            rw (one-way a, u, z, y .1)
+        go false f y z =
+            let u : jobNumbers a (jobOf h) ≡ none = right-unique (rules a (jobOf h)) (2 * (n + 4)) (jobNumbers a (jobOf h)) none (right a) (y .0) in
+            rw (one-way a, u, z, y .1, noughts-behind (2 * (n + 4)) 128 (omega (arith, rooms-fit)))
+
+-- the first numbers of a list
+pub front-length : (n : ℕ) (l : List ℕ) → n ≤ length l → n ≡ length (take n l)
+front-length n l h = sym (length-take-le n l h)
+
+pub front-named : (n : ℕ) (l : List ℕ) (j : Job) → n ≤ length l → named n j ≡ true → named (length (take n l)) j ≡ true
+front-named n l j h e = rw (length-take-le n l h) e
+
+pub front-answers : (b : Bool) (E : List Rule) (n : ℕ) (l f : List ℕ) → n ≤ length l → Answers b E f (length (take n l)) → Fronts b E n l (f ++ drop n l)
+front-answers b E n l f h a = record { front = f; answers = rw (length-take-le n l h) at a; is = refl }
+
+-- both directions have their numbers
+pub both-numbered : (a b : Option (List ℕ)) (x y : Numbers) → x ≡ numbersHeld a → y ≡ numbersHeld b → not (x .found) ≡ false → not (y .found) ≡ false
+    → _≡_ {A = Walls} (record { answer = Numbered; uprights = record { 0 = x .list }; levels = record { 0 = y .list } }) (wallsFrom a b)
+unfolding numbersHeld wallsFrom
+both-numbered none b x y p q f g = absurd (let z : _≡_ {A = ℕ} 0 1 = cc (rw p at f) in omega arith)
+both-numbered (some u) none x y p q f g = absurd (let z : _≡_ {A = ℕ} 0 1 = cc (rw q at g) in omega arith)
+both-numbered (some u) (some v) x y p q f g = rw (p, q)
+
+-- one has none
+pub first-none : (a b : Option (List ℕ)) (x : Numbers) (w : Walls) → x ≡ numbersHeld a → not (x .found) ≡ true → w ≡ noWalls → w ≡ wallsFrom a b
+unfolding numbersHeld wallsFrom
+first-none none b x w p f e = e
+first-none (some u) b x w p f e = absurd (let z : _≡_ {A = ℕ} 0 1 = cc (rw p at f) in omega arith)
+
+pub second-none : (a b : Option (List ℕ)) (y : Numbers) (w : Walls) → y ≡ numbersHeld b → not (y .found) ≡ true → w ≡ noWalls → w ≡ wallsFrom a b
+unfolding numbersHeld wallsFrom
+second-none none b y w q f e = e
+second-none (some u) none y w q f e = e
+second-none (some u) (some v) y w q f e = absurd (let z : _≡_ {A = ℕ} 0 1 = cc (rw q at f) in omega arith)
+
+pub no-numbers : (l : List ℕ) → l ≡ replicate 128 0 → _≡_ {A = Walls} (record { answer = Circle; uprights = record { 0 = l }; levels = record { 0 = l } }) noWalls
+no-numbers l e = rw e
