@@ -2,14 +2,16 @@
 use mathlib.Core.Bool.{Bool, true, false, cond, _&&_}
 use mathlib.Core.Option.{Option, none, some}
 use mathlib.Core.List.{List, _++_}
-use Prim.Native.Nat.{ℕ}
-use lib.ListN.{length, replicate, drop}
+use Prim.Native.Nat.{ℕ, _+_, _*_}
+use lib.ListN.{length, getD, replicate, drop}
 use Rattle.floor.specs.Lists.{all}
 use Rattle.floor.specs.Jobs.{Entry, Star, Job, isVertex, test2}
 use Rattle.floor.specs.Walls.{Axis, upright, level, jobNumbers}
 use Rattle.walls.specs.declared.Answer.the-variants.{Numbered, Circle}
 use Rattle.walls.specs.declared.Walls.{Walls}
 use Rattle.walls.specs.declared.Numbers.{Numbers}
+use Rattle.walls.specs.declared.Sides.{Sides}
+use Rattle.walls.specs.declared.Sheet.{Sheet}
 
 -- every neighbour is a vertex of the job
 unfoldable pub vertices : Job → Bool
@@ -45,3 +47,17 @@ wallsFrom none b = noWalls
 -- THE WALLS OF ANY JOB
 unfoldable pub wallsOf : Job → Walls
 wallsOf j = wallsFrom (numbersIn upright j) (numbersIn level j)
+
+-- THE WALLS ON THE FOUR SIDES of a vertex
+abbrev pub sidesOf : Walls → ℕ → Sides
+sidesOf w v =
+    record {
+      left = record { 0 = getD (w .uprights .0) (2 * v + 0) 0 };
+      right = record { 0 = getD (w .uprights .0) (2 * v + 1) 0 };
+      lower = record { 0 = getD (w .levels .0) (2 * v + 0) 0 };
+      upper = record { 0 = getD (w .levels .0) (2 * v + 1) 0 };
+    }
+
+-- THE SHEET: the number of E's left wall plus 1, and that of N's bottom wall plus 1
+abbrev pub sheetOf : Walls → Sheet
+sheetOf w = record { width = sidesOf w 3 .left .0 + 1; height = sidesOf w 0 .lower .0 + 1 }

@@ -2,13 +2,14 @@
 ghost use mathlib.Core.Path.{_≡_};
 ghost use mathlib.Core.Bool.{true, _&&_};
 ghost use Prim.Native.Nat.{_+_, _*_, _≤_, _<_};
-ghost use lib.ListN.{length, replicate};
+ghost use lib.Dec.{leb};
+ghost use lib.ListN.{length, getD, replicate};
 ghost use Rattle.floor.specs.Jobs.{test2};
 ghost use Rattle.floor.specs.Walls.{rules};
 ghost use Rattle.stars.specs.Held.{starsIn, jobOf};
 ghost use Rattle.walls.specs.Jobs.{axisOf, named};
 ghost use Rattle.walls.specs.Steps.{Fronts};
-ghost use Rattle.walls.specs.Numbers.{vertices, numbersIn, numbersHeld, noWalls, wallsOf};
+ghost use Rattle.walls.specs.Numbers.{vertices, numbersIn, numbersHeld, noWalls, wallsOf, sidesOf, sheetOf};
 use stars::Stars;
 
 mod steps; // steps.rt: one rule, and what it does to the numbers
@@ -30,10 +31,10 @@ pub enum Direction {
     Level,
 }
 
-// An upright number, F1: how many walls stand to the left, at most.
+// The number of an upright wall, F1.
 pub struct F1(pub u16);
 
-// A level number, F2.
+// The number of a level wall, F2.
 pub struct F2(pub u16);
 
 // The upright numbers of every side, low then high, vertex by vertex.
@@ -59,6 +60,20 @@ pub struct Walls {
     pub answer: Answer,
     pub uprights: Uprights,
     pub levels: Levels,
+}
+
+// The numbers of the walls on a vertex's four sides.
+pub struct Sides {
+    pub left: F1,
+    pub right: F1,
+    pub lower: F2,
+    pub upper: F2,
+}
+
+// How many cells wide and high a sheet is.
+pub struct Sheet {
+    pub width: usize,
+    pub height: usize,
 }
 
 // Whether the stars are a job that can be numbered: as many rooms as test 2 allows, and every neighbour a vertex.
@@ -162,4 +177,65 @@ pub fn walls_of(stars: Stars) -> Walls
         uprights: Uprights(xs),
         levels: Levels(ys),
     }
+}
+
+// The number of a vertex's low side, or, one further on, of its high side.
+fn side_number(list: &[u16], v: usize, on: usize) -> u16
+    requires { ⌜ on ≤ 1 ⌝ }
+    ensures { λ r. ⌜ r ≡ getD (now (list .entry)) (2 * v + on) 0 ⌝ }
+{
+    if list.len() <= v {
+        return 0;
+    }
+    let side = 2 * v + on;
+    if list.len() <= side {
+        return 0;
+    }
+    list[side]
+}
+
+// The walls on the four sides of a vertex; noughts for a number that is none.
+pub fn sides_of(walls: Walls, v: usize) -> Sides
+    ensures { λ r. ⌜ r ≡ sidesOf walls v ⌝ }
+{
+    let uprights = walls.uprights;
+    let levels = walls.levels;
+    let xs = uprights.0;
+    let ys = levels.0;
+    let left = side_number(&xs, v, 0);
+    let right = side_number(&xs, v, 1);
+    let lower = side_number(&ys, v, 0);
+    let upper = side_number(&ys, v, 1);
+    Sides {
+        left: F1(left),
+        right: F1(right),
+        lower: F2(lower),
+        upper: F2(upper),
+    }
+}
+
+// The sheet: E's left wall and N's bottom wall, and one cell more.
+pub fn sheet_of(walls: Walls) -> Sheet
+    ensures { λ r. ⌜ r ≡ sheetOf walls ⌝ }
+{
+    let east = sides_of(walls, 3);
+    let north = sides_of(walls, 0);
+    let left = east.left;
+    let lower = north.lower;
+    let x = left.0;
+    let y = lower.0;
+    Sheet {
+        width: steps::wide(x) + 1,
+        height: steps::wide(y) + 1,
+    }
+}
+
+// Test 8: the sheet is no wider and no higher than 64.
+pub fn sheet_fits(sheet: Sheet) -> bool
+    ensures { λ r. ⌜ r ≡ (leb (sheet .width) 64 && leb (sheet .height) 64) ⌝ }
+{
+    if 64 < sheet.width {
+        return false;
+    }
+    sheet.height <= 64
 }
