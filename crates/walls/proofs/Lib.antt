@@ -4,3 +4,4 @@ pub mod Telling
 pub mod Visiting
 pub mod Settling
 pub mod Numbering
+pub mod Sheets

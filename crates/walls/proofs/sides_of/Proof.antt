@@ -1,45 +1,34 @@
+use Rattle.walls.proofs.Sheets.{four-sides}
 use borrow.Author.Needs.{needs}
 use Rattle.walls.proofs.sides_of.Statement.{statement}
 use Rattle.walls.proofs.sides_of.Tie as tie
-use Rattle.walls.proofs.sides_of.Reads as reads
-use Rattle.walls.proofs.sides_of.Lts as lts
-use Rattle.walls.proofs.side_number.Reads as side-number-reads
 
--- src/lib.rt:205:28
 slice-aggregate-side-number : tie.Need-slice-aggregate-side-number
 slice-aggregate-side-number c = search needs
 
--- src/lib.rt:205:9
 side-number-requires : tie.Need-side-number-requires
 side-number-requires c κs = search needs
 
--- src/lib.rt:206:29
 slice-aggregate-side-number-2 : tie.Need-slice-aggregate-side-number-2
 slice-aggregate-side-number-2 c = search needs
 
--- src/lib.rt:206:9
 side-number-requires-2 : tie.Need-side-number-requires-2
 side-number-requires-2 c κs = search needs
 
--- src/lib.rt:207:29
 slice-aggregate-side-number-3 : tie.Need-slice-aggregate-side-number-3
 slice-aggregate-side-number-3 c = search needs
 
--- src/lib.rt:207:9
 side-number-requires-3 : tie.Need-side-number-requires-3
 side-number-requires-3 c κs = search needs
 
--- src/lib.rt:208:29
 slice-aggregate-side-number-4 : tie.Need-slice-aggregate-side-number-4
 slice-aggregate-side-number-4 c = search needs
 
--- src/lib.rt:208:9
 side-number-requires-4 : tie.Need-side-number-requires-4
 side-number-requires-4 c κs = search needs
 
--- src/lib.rt:198:1
 returns : tie.Need-returns
-returns c = ?h1
+returns c = search (four-sides, needs)
 
 pub sides-of-spec : {M : Type 1} → statement M
 sides-of-spec =
