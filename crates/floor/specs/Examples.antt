@@ -46,7 +46,7 @@ p7 =
     ∷ 2 ∷ 0 ∷ 8 ∷ 0 ∷ 0 ∷ 5 ∷ 1 ∷ 2 ∷ 2 ∷ 4 ∷ 3 ∷ []
 
 -- the job F
-jobF : List ℕ
+unfoldable pub jobF : List ℕ
 jobF =
     1 ∷ 0 ∷ 1 ∷ 4
     ∷ 2 ∷ 0 ∷ 8 ∷ 0 ∷ 0 ∷ 1 ∷ 1 ∷ 6 ∷ 2 ∷ 5 ∷ 3

@@ -1,19 +1,18 @@
 -- What a lift does, seen from the rules.
 -- Assumes nothing.
-use mathlib.Core.Path.{_≡_, refl, sym, ap, _∙_, subst}
+use mathlib.Core.Path.{_≡_, refl, ap, _∙_}
 use mathlib.Core.Logic.{_⊎_, inl, inr}
-use mathlib.Core.List.{List, [], _∷_, List·Memᴰ, List·Memᴰ·head, List·Memᴰ·tail}
-use Prim.Native.Nat.{ℕ, zero, suc, _+_, _*_, _≤_, _<_, max}
+use mathlib.Core.List.{List, [], _∷_, List·Memᴰ·head}
+use Prim.Native.Nat.{ℕ, zero, suc, _+_, _≤_, _<_}
 use native.Mathlib.Nat.{add-zero}
 use native.Mathlib.Omega.{arith}
-use lib.ListN.{length, getD, set, replicate}
+use lib.ListN.{length, getD, set}
 use Rattle.walls.specs.declared.Step.{Step}
 use Rattle.walls.specs.declared.Step.the-variants.{Kept, Raised, Over}
-use Rattle.floor.specs.Walls.{Rule, same, before, Numbers, Holds, Respects, Circle}
-use Rattle.floor.specs.Walls.Walk.{Walk, start, on, off, up}
-use Rattle.floor.specs.Walls.{at, raise}
-use Rattle.floor.specs.Walls.Relax.{total, raise-is, raise-more, raise-reached, length-raise, Reached, Within}
-use Rattle.walls.specs.Steps.{Lifts, Ran, Grew, Passed, ruleOf}
+use Rattle.floor.specs.Walls.{Rule, same, before, Holds, Respects, at, raise}
+use Rattle.floor.specs.Walls.Walk.{Walk, on, off, up}
+use Rattle.floor.specs.Walls.Relax.{raise-is, raise-more, raise-reached, length-raise}
+use Rattle.walls.specs.Steps.{Lifts, Ran, Grew, ruleOf}
 
 lift-is-raise : (f : List ℕ) (a b w : ℕ) → at f b < at f a + w → set f b (at f a + w) ≡ raise f a b w
 unfolding raise
@@ -28,7 +27,8 @@ lift-grew E f a b w top l h t step = rw (lift-is-raise f a b w h) (record {
   capped = λ c s. under c s (raise-is f a b w s);
 })
   where
-    under : ((s : ℕ) → at f s ≤ top) → (s : ℕ) → (at (raise f a b w) s ≡ at f s) ⊎ ((s ≡ b) × (at (raise f a b w) s ≡ at f a + w)) → at (raise f a b w) s ≤ top
+    under : ((s : ℕ) → at f s ≤ top) → (s : ℕ) → (at (raise f a b w) s ≡ at f s) ⊎ ((s ≡ b) × (at (raise f a b w) s ≡ at f a + w))
+        → at (raise f a b w) s ≤ top
     under c s (inl e) = omega (arith, c s)
     under c s (inr e) = omega arith
 

@@ -5,3 +5,4 @@ pub mod Visiting
 pub mod Settling
 pub mod Numbering
 pub mod Sheets
+pub mod Corollaries

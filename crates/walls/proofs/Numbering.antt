@@ -1,9 +1,9 @@
 -- The numbers of any held stars. Assumes nothing.
 use mathlib.Core.Path.{_≡_, refl, sym, ap, _∙_}
-use mathlib.Core.Bool.{Bool, true, false, not, cond, _&&_}
+use mathlib.Core.Bool.{Bool, true, false, not, _&&_}
 use mathlib.Core.Option.{Option, none, some}
 use mathlib.Core.List.{List, [], _∷_, _++_}
-use Prim.Native.Nat.{ℕ, zero, suc, _+_, _-_, _*_, _≤_, _<_}
+use Prim.Native.Nat.{ℕ, zero, suc, _+_, _*_, _≤_, _<_}
 use native.Mathlib.Omega.{arith}
 use borrow.Author.Tests.{le-leb, lt-leb, leb-true, ltb-true, lt-ltb, not-true, not-false}
 use lib.Dec.{leb, ltb}
@@ -11,7 +11,7 @@ use lib.ListN.{length, replicate, take, drop, length-replicate}
 use lib.Seq.{length-take-le}
 use Rattle.floor.specs.Lists.{all}
 use Rattle.floor.specs.Lists.Laws.{same-test, and-left, and-right}
-use Rattle.floor.specs.Jobs.{Entry, Star, Job, isVertex, test2}
+use Rattle.floor.specs.Jobs.{Entry, Job, isVertex, test2}
 use Rattle.floor.specs.Walls.{Rule, Axis, high, rules, jobNumbers}
 use Rattle.floor.specs.Walls.Relax.{Right, right-unique}
 use Rattle.floor.specs.Walls.Rules.{jobNumbers-right}
@@ -20,7 +20,7 @@ use Rattle.stars.specs.Held.{starsIn, jobOf}
 use Rattle.stars.proofs.Holding.{length-stars}
 use Rattle.walls.specs.Steps.{Answers, Fronts}
 use Rattle.walls.specs.Jobs.{entryNamed, starNamed, named}
-use Rattle.walls.specs.Numbers.{vertices, numbersIn, noughts, placed, numbersHeld, noWalls, wallsFrom}
+use Rattle.walls.specs.Numbers.{vertices, numbersIn, numbersHeld, noWalls, wallsFrom}
 use Rattle.walls.specs.declared.Answer.the-variants.{Numbered, Circle}
 use Rattle.walls.specs.declared.Numbers.{Numbers}
 use Rattle.walls.specs.declared.Walls.{Walls}
@@ -104,7 +104,8 @@ module _ (h : Stars) (n : ℕ) (ec : n ≡ h .count) where
     right : (a : Axis) → Right (rules a (jobOf h)) (2 * (n + 4)) (jobNumbers a (jobOf h))
     right a = rw held-rooms at (jobNumbers-right a (jobOf h) (all-named (2 * (n + 4)) (jobOf h) (rw held-job at all-vertices) (omega (arith, held-rooms))))
 
-    pub held-numbers : (a : Axis) (r : Bool) (l l′ : List ℕ) → l ≡ replicate 128 0 → Fronts r (rules a (starsIn n 0 (h .ends) (h .nbr) (h .kind))) (2 * (n + 4)) l l′
+    pub held-numbers : (a : Axis) (r : Bool) (l l′ : List ℕ) → l ≡ replicate 128 0 → Fronts r (rules a (starsIn n 0 (h .ends) (h .nbr) (h .kind)))
+        (2 * (n + 4)) l l′
         → record { found = r; list = l′ } ≡ numbersHeld (numbersIn a (jobOf h))
     unfolding numbersHeld
     held-numbers a r l l′ e x = go r (x .front) (rw held-job at (x .answers)) (rw e at (x .is))
@@ -148,5 +149,9 @@ second-none none b y w q f e = e
 second-none (some u) none y w q f e = e
 second-none (some u) (some v) y w q f e = absurd (let z : _≡_ {A = ℕ} 0 1 = cc (rw q at f) in omega arith)
 
-pub no-numbers : (l : List ℕ) → l ≡ replicate 128 0 → _≡_ {A = Walls} (record { answer = Circle; uprights = record { 0 = l }; levels = record { 0 = l } }) noWalls
+pub no-numbers : (l : List ℕ) → l ≡ replicate 128 0 → _≡_ {A = Walls} (record {
+  answer = Circle;
+  uprights = record { 0 = l };
+  levels = record { 0 = l };
+}) noWalls
 no-numbers l e = rw e

@@ -1,18 +1,17 @@
 -- Passes until nothing changes.
 -- Assumes nothing.
-use mathlib.Core.Path.{_≡_, refl, sym, ap, _∙_, subst}
+use mathlib.Core.Path.{_≡_, sym, _∙_}
 use mathlib.Core.Bool.{Bool, true, false}
 use mathlib.Core.List.{List, [], _∷_}
-use Prim.Native.Nat.{ℕ, zero, suc, _+_, _-_, _*_, _≤_, _<_}
+use Prim.Native.Nat.{ℕ, suc, _+_, _-_, _*_, _≤_, _<_}
 use native.Mathlib.Nat.{suc-mul}
 use native.Mathlib.Decide.{decLt}
 use native.Mathlib.Omega.{arith}
-use lib.ListN.{length, getD, set, replicate, length-set, length-replicate, getD-replicate, List·getD-eq-default}
+use lib.ListN.{length, getD, set, replicate, length-replicate, getD-replicate, List·getD-eq-default}
 use lib.Seq.{ext-getD, getD-set-same, getD-set-other}
 use Rattle.walls.specs.declared.Step.{Step}
 use Rattle.walls.specs.declared.Step.the-variants.{Kept, Raised, Over}
-use Rattle.floor.specs.Walls.{Rule, Numbers, Respects, Circle}
-use Rattle.floor.specs.Walls.{at}
+use Rattle.floor.specs.Walls.{Rule, Circle, at}
 use Rattle.floor.specs.Walls.Relax.{total, Reached, reached-numbers, ones-reached}
 use Rattle.walls.specs.Steps.{Ran, Climbs, Rose, Grew, Capped, Passed, Enough, Answers, isOver}
 

@@ -1,6 +1,6 @@
 -- The walls read side by side, the sheet, and test 8. Assumes nothing.
-use mathlib.Core.Path.{_≡_, refl, sym}
-use mathlib.Core.Bool.{Bool, true, false, _&&_}
+use mathlib.Core.Path.{_≡_, sym}
+use mathlib.Core.Bool.{false, _&&_}
 use mathlib.Core.List.{List}
 use Prim.Native.Nat.{ℕ, _+_, _*_, _≤_, _<_}
 use native.Mathlib.Omega.{arith}
@@ -22,7 +22,7 @@ no-side l v on h = sym (List·getD-eq-default l 0 h)
 pub four-sides : (w : Walls) (v x y z u : ℕ) → x ≡ getD (w .uprights .0) (2 * v + 0) 0 → y ≡ getD (w .uprights .0) (2 * v + 1) 0
     → z ≡ getD (w .levels .0) (2 * v + 0) 0 → u ≡ getD (w .levels .0) (2 * v + 1) 0
     → _≡_ {A = Sides} (record { left = record { 0 = x }; right = record { 0 = y }; lower = record { 0 = z }; upper = record { 0 = u } }) (sidesOf w v)
-four-sides w v x y z u a b c d = rw (a, b, c, d)
+four-sides w v x y z u a b c d = let e : 2 * v + 0 ≡ 2 * v = omega arith in rw (rw e at a, b, rw e at c, d)
 
 pub the-sheet : (w : Walls) (e n : Sides) (x y : ℕ) → e ≡ sidesOf w 3 → n ≡ sidesOf w 0 → x ≡ e .left .0 → y ≡ n .lower .0
     → _≡_ {A = Sheet} (record { width = x + 1; height = y + 1 }) (sheetOf w)

@@ -10,7 +10,7 @@ use lib.ListN.{length, getD}
 use Rattle.floor.specs.Lists.{all}
 use Rattle.floor.specs.Lists.Laws.{and-left, and-right}
 use Rattle.floor.specs.Jobs.{Star, Job}
-use Rattle.floor.specs.Walls.{Rule, same, before, low, high, entryRules, starRules, rulesFrom, rules}
+use Rattle.floor.specs.Walls.{Rule, same, before, low, high, entryRules, starRules, rulesFrom}
 use Rattle.stars.specs.Held.{toAt, entryAt, cells, startOf, endOf, heldStar, starsIn}
 use Rattle.stars.specs.Pairs.{pair}
 use Rattle.stars.proofs.Holding.{cells-more, cells-done, held-more, held-done}
@@ -19,8 +19,8 @@ use Rattle.walls.specs.declared.Step.the-variants.{Kept}
 use Rattle.walls.specs.declared.Direction.{Direction}
 use Rattle.walls.specs.declared.Direction.the-variants.{Upright, Level}
 use Rattle.walls.specs.Steps.{Ran, both}
-use Rattle.walls.specs.Jobs.{axisOf, entryNamed, starNamed, named}
-use Rattle.walls.proofs.Running.{ran-both, Going, going-start, going-next, going-done}
+use Rattle.walls.specs.Jobs.{axisOf, starNamed, named}
+use Rattle.walls.proofs.Running.{ran-both, Going, going-next, going-done}
 
 -- the rules of an entry, by its kind
 module _ (u v k : ℕ) where
@@ -34,7 +34,8 @@ module _ (u v k : ℕ) where
   rules-near Upright e = rw e
   rules-near Level e = rw e
 
-  rules-cross : (w : Direction) → k ≡ axisOf w .cross → 4 ≤ v → entryRules (axisOf w) u (pair v k) ≡ before (low u) (high v) 0 ∷ before (low v) (high u) 0 ∷ []
+  rules-cross : (w : Direction) → k ≡ axisOf w .cross → 4 ≤ v → entryRules (axisOf w) u (pair v k) ≡ before (low u) (high v) 0 ∷ before (low v) (high u)
+      0 ∷ []
   unfolding entryRules
   rules-cross Upright e l = rw (e, le-leb 4 v l)
   rules-cross Level e l = rw (e, le-leb 4 v l)
@@ -123,7 +124,8 @@ module _ (ends nbr kind : List ℕ) (i from end : ℕ) (ef : from ≡ startOf en
       → Ran r (before (low (4 + i)) (high (4 + i)) 0 ∷ starRules (axisOf w) (4 + i) (heldStar ends nbr kind i)) f f₂ top
   unfolding heldStar
   ran-room w s t r f f₁ f₂ top p q e =
-      rw e (ran-both (before (low (4 + i)) (high (4 + i)) 0 ∷ []) (starRules (axisOf w) (4 + i) (heldStar ends nbr kind i)) f f₁ f₂ top s t p (rw (ef, ee) at q))
+      rw e (ran-both (before (low (4 + i)) (high (4 + i)) 0 ∷ []) (starRules (axisOf w) (4 + i) (heldStar ends nbr kind i)) f f₁ f₂ top s t p
+      (rw (ef, ee) at q))
 
 -- as many sides
 pub named-same : (m l : ℕ) (j : Job) → named m j ≡ true → l ≡ m → named l j ≡ true

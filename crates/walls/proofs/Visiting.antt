@@ -1,6 +1,6 @@
 -- Visits: some rules of a job, wherever they stand. Assumes nothing.
-use mathlib.Core.Path.{_≡_, refl, sym}
-use mathlib.Core.Bool.{Bool, true}
+use mathlib.Core.Path.{_≡_, refl}
+use mathlib.Core.Bool.{true}
 use mathlib.Core.List.{List, [], _∷_, List·Memᴰ, List·Memᴰ·head, List·Memᴰ·tail}
 use Prim.Native.Nat.{ℕ, suc, zero, _+_, _-_, _*_, _≤_, _<_}
 use native.Mathlib.Omega.{arith}
@@ -8,16 +8,16 @@ use native.Mathlib.Decide.{ℕ-discrete}
 use borrow.Author.Tests.{ltb-true}
 use lib.ListN.{length, getD}
 use Rattle.floor.specs.Lists.Laws.{all-mem, mem-getD}
-use Rattle.floor.specs.Jobs.{Entry, Star, Job}
+use Rattle.floor.specs.Jobs.{Entry, Job}
 use Rattle.floor.specs.Walls.{Rule, before, low, high, entryRules, rules}
 use Rattle.floor.specs.Walls.Rules.{Told, Named, entry-every, every-told, job-walk}
 use Rattle.stars.specs.Held.{toAt, entryAt, cells, startOf, endOf, heldStar, starsIn}
 use Rattle.stars.specs.Pairs.{pair}
-use Rattle.stars.proofs.Holding.{cells-more, star-in, length-stars}
+use Rattle.stars.proofs.Holding.{star-in, length-stars}
 use Rattle.walls.specs.declared.Step.{Step}
 use Rattle.walls.specs.declared.Step.the-variants.{Kept}
 use Rattle.walls.specs.declared.Direction.{Direction}
-use Rattle.walls.specs.Steps.{Rose, Among, Ran, Climbs, Enough, both}
+use Rattle.walls.specs.Steps.{Among, Ran, Climbs, Enough, both}
 use Rattle.walls.specs.Jobs.{axisOf, entryNamed, starNamed, named}
 use Rattle.walls.proofs.Running.{ran-climbs, climbs-both}
 
@@ -63,7 +63,8 @@ module _ (ends nbr kind : List ℕ) (n : ℕ) where
 
     among : (w : Direction) → Among (entryRules (axisOf w) u (entryAt nbr kind k)) (rules (axisOf w) job)
     among w =
-        let t : Told (λ r. List·Memᴰ r (rules (axisOf w) job)) (axisOf w) 4 job = every-told (λ r. List·Memᴰ r (rules (axisOf w) job)) (axisOf w) 4 job (λ r m. m) in
+        let t : Told (λ r. List·Memᴰ r (rules (axisOf w) job)) (axisOf w) 4 job = every-told (λ r. List·Memᴰ r (rules (axisOf w) job)) (axisOf w) 4 job
+        (λ r m. m) in
         let z : 4 + (u - 4) ≡ u = omega arith in
         rw z at (entry-every (λ r. List·Memᴰ r (rules (axisOf w) job)) (axisOf w) (4 + (u - 4)) (entryAt nbr kind k)
         (t .each (u - 4) (omega (arith, length-stars n 0 ends nbr kind)) (entryAt nbr kind k) here))
@@ -77,10 +78,13 @@ module _ (ends nbr kind : List ℕ) (n : ℕ) where
   pub own-climbs : (w : Direction) (i : ℕ) (s : Step) (f f′ : List ℕ) (top : ℕ) → i < n → Ran s (before (low (4 + i)) (high (4 + i)) 0 ∷ []) f f′ top
       → Climbs s (rules (axisOf w) job) f f′ top
   own-climbs w i s f f′ top h p =
-      let t : Told (λ r. List·Memᴰ r (rules (axisOf w) job)) (axisOf w) 4 job = every-told (λ r. List·Memᴰ r (rules (axisOf w) job)) (axisOf w) 4 job (λ r m. m) in
-      ran-climbs (before (low (4 + i)) (high (4 + i)) 0 ∷ []) (rules (axisOf w) job) f f′ top s (only (t .own i (omega (arith, length-stars n 0 ends nbr kind)))) p
+      let t : Told (λ r. List·Memᴰ r (rules (axisOf w) job)) (axisOf w) 4 job = every-told (λ r. List·Memᴰ r (rules (axisOf w) job)) (axisOf w) 4 job
+      (λ r m. m) in
+      ran-climbs (before (low (4 + i)) (high (4 + i)) 0 ∷ []) (rules (axisOf w) job) f f′ top s
+      (only (t .own i (omega (arith, length-stars n 0 ends nbr kind)))) p
     where
-      only : List·Memᴰ (before (low (4 + i)) (high (4 + i)) 0) (rules (axisOf w) job) → Among (before (low (4 + i)) (high (4 + i)) 0 ∷ []) (rules (axisOf w) job)
+      only : List·Memᴰ (before (low (4 + i)) (high (4 + i)) 0) (rules (axisOf w) job)
+          → Among (before (low (4 + i)) (high (4 + i)) 0 ∷ []) (rules (axisOf w) job)
       only m r (List·Memᴰ·head e) = rw e m
 
 -- and one visit more

@@ -1,6 +1,6 @@
 -- The directions, and the jobs that can be numbered. Assumes nothing.
 use mathlib.Core.Bool.{Bool}
-use Prim.Native.Nat.{ℕ, _+_, _*_}
+use Prim.Native.Nat.{ℕ}
 use lib.Dec.{ltb}
 use Rattle.floor.specs.Lists.{all}
 use Rattle.floor.specs.Jobs.{Entry, Star, Job}

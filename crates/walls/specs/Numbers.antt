@@ -2,11 +2,11 @@
 use mathlib.Core.Bool.{Bool, true, false, cond, _&&_}
 use mathlib.Core.Option.{Option, none, some}
 use mathlib.Core.List.{List, _++_}
-use Prim.Native.Nat.{ℕ, _+_, _*_}
+use Prim.Native.Nat.{ℕ, _+_}
 use lib.ListN.{length, getD, replicate, drop}
 use Rattle.floor.specs.Lists.{all}
-use Rattle.floor.specs.Jobs.{Entry, Star, Job, isVertex, test2}
-use Rattle.floor.specs.Walls.{Axis, upright, level, jobNumbers}
+use Rattle.floor.specs.Jobs.{Entry, Job, isVertex, test2}
+use Rattle.floor.specs.Walls.{Axis, upright, level, low, high, jobNumbers}
 use Rattle.walls.specs.declared.Answer.the-variants.{Numbered, Circle}
 use Rattle.walls.specs.declared.Walls.{Walls}
 use Rattle.walls.specs.declared.Numbers.{Numbers}
@@ -52,10 +52,10 @@ wallsOf j = wallsFrom (numbersIn upright j) (numbersIn level j)
 abbrev pub sidesOf : Walls → ℕ → Sides
 sidesOf w v =
     record {
-      left = record { 0 = getD (w .uprights .0) (2 * v + 0) 0 };
-      right = record { 0 = getD (w .uprights .0) (2 * v + 1) 0 };
-      lower = record { 0 = getD (w .levels .0) (2 * v + 0) 0 };
-      upper = record { 0 = getD (w .levels .0) (2 * v + 1) 0 };
+      left = record { 0 = getD (w .uprights .0) (low v) 0 };
+      right = record { 0 = getD (w .uprights .0) (high v) 0 };
+      lower = record { 0 = getD (w .levels .0) (low v) 0 };
+      upper = record { 0 = getD (w .levels .0) (high v) 0 };
     }
 
 -- THE SHEET: the number of E's left wall plus 1, and that of N's bottom wall plus 1

@@ -87,13 +87,7 @@ fn can_number(stars: Stars) -> bool
     if 60 < count {
         return false;
     }
-    vertices::all_named(
-        &stars.ends,
-        &stars.nbr,
-        &stars.kind,
-        count,
-        2 * (count + 4),
-    )
+    vertices::all_named(&stars.ends, &stars.nbr, &stars.kind, count, 2 * (count + 4))
 }
 
 // Noughts, one for each side of 64 vertices.
@@ -132,14 +126,7 @@ fn numbers_in(stars: Stars, way: Direction) -> Numbers
         };
     }
     let count = fields::wide(stars.count);
-    let found = number_front(
-        &mut list,
-        way,
-        &stars.ends,
-        &stars.nbr,
-        &stars.kind,
-        count,
-    );
+    let found = number_front(&mut list, way, &stars.ends, &stars.nbr, &stars.kind, count);
     Numbers {
         found: found,
         list: list,

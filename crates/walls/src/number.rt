@@ -187,19 +187,7 @@ fn go_round<'a>(
     let mut done = Step::Kept;
     let mut left: u16 = if from < to { top } else { 0 };
     while 0 < left {
-        let did = climb(
-            f,
-            way,
-            ends,
-            nbr,
-            kind,
-            count,
-            owner,
-            visits,
-            from,
-            to,
-            top,
-        );
+        let did = climb(f, way, ends, nbr, kind, count, owner, visits, from, to, top);
         done = crate::steps::both_of(done, did);
         left = rounds_after(done, left);
     }

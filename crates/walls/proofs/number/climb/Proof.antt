@@ -12,7 +12,7 @@ use Rattle.walls.proofs.number.climb.Statement.{statement}
 use Rattle.walls.proofs.number.climb.Tie as tie
 
 abbrev Inv-loop : tie.InvT-loop
-Inv-loop f₀ way ends nbr kind count owner visits from to top done₀ at₀ f done at = 
+Inv-loop f₀ way ends nbr kind count owner visits from to top done₀ at₀ f done at =
     (length f ≡ length f₀) × Climbs done (rules (axisOf way) (starsIn count 0 ends nbr kind)) f₀ f top
 
 abbrev μ-loop : tie.MeasureT-loop

@@ -52,10 +52,11 @@ same-length c = search needs
 returns : tie.Need-returns
 returns c =
     let round = c .before .before .before in
-    let s = c .before .before .before .before .before .before .before .before .before .before .before .before .before .before .before .before .before .before .before .before .before .before .before .before .before in
     let once = round .before .before .before .before .before .before in
+    let s = once .before .before .before .before .before .before .before .before .before .before .before .before .before .before .before .before in
     climbs-more (rules (axisOf (s .args .way)) (starsIn (s .args .count) 0 (s .args .ends .now) (s .args .nbr .now) (s .args .kind .now))) (s .args .f .now)
-    (once .climb .last .0) (round .go-round .last .0) (s .args .top) (once .climb .result) (round .go-round .result) (c .both-of .result) (round .before .before .before .before .before .before .climb .ensures) (round .go-round .ensures) (c .both-of .ensures)
+    (once .climb .last .0) (round .go-round .last .0) (s .args .top) (once .climb .result) (round .go-round .result) (c .both-of .result)
+    (once .climb .ensures) (round .go-round .ensures) (c .both-of .ensures)
 
 pub climb-all-spec : {M : Type 1} → statement M
 climb-all-spec =

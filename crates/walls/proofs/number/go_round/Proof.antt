@@ -11,7 +11,7 @@ use Rattle.walls.proofs.number.go_round.Statement.{statement}
 use Rattle.walls.proofs.number.go_round.Tie as tie
 
 abbrev Inv-loop : tie.InvT-loop
-Inv-loop f₀ way ends nbr kind count owner visits from to top done₀ left₀ f done left = 
+Inv-loop f₀ way ends nbr kind count owner visits from to top done₀ left₀ f done left =
     (length f ≡ length f₀) × Climbs done (rules (axisOf way) (starsIn count 0 ends nbr kind)) f₀ f top
 
 abbrev μ-loop : tie.MeasureT-loop

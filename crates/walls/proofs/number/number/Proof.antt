@@ -63,7 +63,8 @@ settle-requires c κs =
       named-same (length (s .args .f .now)) _ _ (s .pre .2) q,
       job-enough (s .args .ends .now) (s .args .nbr .now) (s .args .kind .now) (s .args .count) (length (s .args .f .now)) (s .args .count + 1) (s .args .way)
           (s .pre .2) (s .pre .1) refl,
-      climbed-reached E (all .climb-all .result) (ones .fill .last .0) (all .climb-all .last .0) (s .args .count + 1) (length (s .args .f .now)) (ones .fill .ensures) (all .climb-all .ensures) no,
+      climbed-reached E (all .climb-all .result) (ones .fill .last .0) (all .climb-all .last .0) (s .args .count + 1) (length (s .args .f .now))
+          (ones .fill .ensures) (all .climb-all .ensures) no,
       climbed-capped E (all .climb-all .result) (ones .fill .last .0) (all .climb-all .last .0) (s .args .count + 1) (length (s .args .f .now))
           (ones .fill .ensures) (all .climb-all .ensures) no (omega arith),
     )
@@ -78,7 +79,8 @@ returns-2 c =
     let s = all .before .before .before .before .before .before .before .before .before .before in
     let q : length (all .climb-all .last .0) ≡ length (s .args .f .now) = search needs in
     let E = rules (axisOf (s .args .way)) (starsIn (s .args .count) 0 (s .args .ends .now) (s .args .nbr .now) (s .args .kind .now)) in
-    answers-same E (settled .settle .result) (settled .settle .last .0) (length (all .climb-all .last .0)) (length (s .args .f .now)) q (settled .settle .ensures)
+    answers-same E (settled .settle .result) (settled .settle .last .0) (length (all .climb-all .last .0)) (length (s .args .f .now)) q
+    (settled .settle .ensures)
 
 pub number-spec : {M : Type 1} → statement M
 number-spec =

@@ -14,7 +14,7 @@ use Rattle.walls.proofs.number.settle.Statement.{statement}
 use Rattle.walls.proofs.number.settle.Tie as tie
 
 abbrev Inv-loop : tie.InvT-loop
-Inv-loop f₀ way ends nbr kind count top f = 
+Inv-loop f₀ way ends nbr kind count top f =
     (length f ≡ length f₀) × Reached (rules (axisOf way) (starsIn count 0 ends nbr kind)) f × Capped f top
 
 abbrev μ-loop : tie.MeasureT-loop
@@ -60,7 +60,9 @@ returns-2 c =
     let d = c .before .before .before .before .before .before .before .before .pass in
     let e : d .result ≡ Over = cc in
     let q : length (d .last .0) ≡ length (s .args .f .now) = search needs in
-    ran-circle _ _ (l .f) (d .last .0) _ (s .args .top) _ e (d .ensures) (l .inv .1) (s .pre .3) q (c .before .before .fill .ensures)
+    ran-circle (rules (axisOf (s .args .way)) (starsIn (s .args .count) 0 (s .args .ends .now) (s .args .nbr .now) (s .args .kind .now))) (d .result)
+    (l .f) (d .last .0) (c .before .before .fill .last .0) (s .args .top) (length (s .args .f .now)) e (d .ensures) (l .inv .1) (s .pre .3) q
+    (c .before .before .fill .ensures)
 
 pub settle-spec : {M : Type 1} → statement M
 settle-spec =

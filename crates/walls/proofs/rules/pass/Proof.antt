@@ -13,7 +13,7 @@ use Rattle.walls.proofs.rules.pass.Statement.{statement}
 use Rattle.walls.proofs.rules.pass.Tie as tie
 
 abbrev Inv-loop : tie.InvT-loop
-Inv-loop f₀ way ends nbr kind count top done₀ i₀ f done i = 
+Inv-loop f₀ way ends nbr kind count top done₀ i₀ f done i =
     (length f ≡ length f₀) × (named (length f₀) (starsIn (count - i) i ends nbr kind) ≡ true)
     × Going done (rulesFrom (axisOf way) (4 + i) (starsIn (count - i) i ends nbr kind)) (rules (axisOf way) (starsIn count 0 ends nbr kind)) f₀ f top
 

@@ -12,7 +12,7 @@ use Rattle.walls.proofs.rules.star.Statement.{statement}
 use Rattle.walls.proofs.rules.star.Tie as tie
 
 abbrev Inv-loop : tie.InvT-loop
-Inv-loop f₀ way nbr kind u from end top done₀ k₀ f done k = 
+Inv-loop f₀ way nbr kind u from end top done₀ k₀ f done k =
     (length f ≡ length f₀) × (starNamed (length f₀) (cells (end - k) k nbr kind) ≡ true)
     × Going done (starRules (axisOf way) u (cells (end - k) k nbr kind)) (starRules (axisOf way) u (cells (end - «from») «from» nbr kind)) f₀ f top
 

@@ -9,7 +9,7 @@ use Rattle.walls.proofs.vertices.all_named.Statement.{statement}
 use Rattle.walls.proofs.vertices.all_named.Tie as tie
 
 abbrev Inv-loop : tie.InvT-loop
-Inv-loop ends nbr kind count sides i₀ i = 
+Inv-loop ends nbr kind count sides i₀ i =
     named sides (starsIn (count - i) i ends nbr kind) ≡ named sides (starsIn count 0 ends nbr kind)
 
 abbrev μ-loop : tie.MeasureT-loop

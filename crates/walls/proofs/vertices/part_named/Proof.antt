@@ -8,7 +8,7 @@ use Rattle.walls.proofs.vertices.part_named.Statement.{statement}
 use Rattle.walls.proofs.vertices.part_named.Tie as tie
 
 abbrev Inv-loop : tie.InvT-loop
-Inv-loop nbr kind from end sides k₀ k = 
+Inv-loop nbr kind from end sides k₀ k =
     starNamed sides (cells (end - k) k nbr kind) ≡ starNamed sides (cells (end - «from») «from» nbr kind)
 
 abbrev μ-loop : tie.MeasureT-loop

@@ -1,0 +1,129 @@
+-- What follows from the promise of `walls_of`. Assumes nothing.
+use mathlib.Core.Path.{_≡_, refl, sym, ap, _∙_}
+use mathlib.Core.Logic.{_⊎_, inl, inr, _↔_}
+use mathlib.Core.Bool.{true, _&&_}
+use mathlib.Core.Option.{Option, none, some}
+use mathlib.Core.List.{List, []}
+use Prim.Native.Nat.{ℕ, _+_, _*_, _≤_, _<_}
+use native.Mathlib.Omega.{arith}
+use borrow.Author.Tests.{le-leb}
+use lib.Dec.{leb}
+use lib.ListN.{length, getD, drop, List·getD-append}
+use Rattle.floor.specs.Lists.{all}
+use Rattle.floor.specs.Lists.Laws.{all-at, mem-all}
+use Rattle.floor.specs.Jobs.{Entry, Job, isVertex, test2}
+use Rattle.floor.specs.Jobs.Facts.{Passes}
+use Rattle.floor.specs.Walls.{Axis, upright, level, low, high, at, Respects, Circle, rules, jobNumbers, Numbers as TheNumbers}
+use Rattle.floor.specs.Walls.Walk.{Positive, numbers-respects}
+use Rattle.floor.specs.Walls.Relax.{Right}
+use Rattle.floor.specs.Walls.Rules.{to-vertex, jobNumbers-right, job-bound, numbers-least}
+use Rattle.floor.specs.Plans.{planOf, test8}
+use Rattle.walls.specs.declared.Answer.the-variants.{Numbered, Circle as Round}
+use Rattle.walls.specs.declared.Walls.{Walls}
+use Rattle.walls.specs.declared.Sides.{Sides}
+use Rattle.walls.specs.declared.Sheet.{Sheet}
+use Rattle.walls.specs.Numbers.{vertices, numbersIn, noughts, placed, wallsFrom, wallsOf, sidesOf, sheetOf}
+use Rattle.walls.proofs.Grow.{at-getD}
+
+-- THE PROMISE OF `walls_of` ALLOWS ONE ANSWER
+pub one-answer : (j : Job) (r t : Walls) → r ≡ wallsOf j → t ≡ wallsOf j → r ≡ t
+one-answer j r t p q = p ∙ sym q
+
+-- the numbers of walls are those of two lists of numbers, side by side
+pub record Reads (w : Walls) (n : ℕ) (f g : ℕ → ℕ) : Type 0 where
+  pub sides : (v : ℕ) → v < n → _≡_ {A = Sides} (sidesOf w v)
+      (record { left = record { 0 = f (low v) }; right = record { 0 = f (high v) }; lower = record { 0 = g (low v) }; upper = record { 0 = g (high v) } })
+  pub sheet : _≡_ {A = Sheet} (sheetOf w) (record { width = f (low 3) + 1; height = g (low 0) + 1 })
+
+-- THE WALLS OF A JOB ARE NUMBERED: by the text; least among all numbers that respect every `before`; none above n + 1
+pub record TextNumbers (j : Job) (w : Walls) : Type 0 where
+  pub f : ℕ → ℕ
+  pub g : ℕ → ℕ
+  pub reads : Reads w (length j + 4) f g
+  pub are-upright : TheNumbers (rules upright j) f
+  pub are-level : TheNumbers (rules level j) g
+  pub least-upright : (h : ℕ → ℕ) → Positive h → Respects (rules upright j) h → (s : ℕ) → f s ≤ h s
+  pub least-level : (h : ℕ → ℕ) → Positive h → Respects (rules level j) h → (s : ℕ) → g s ≤ h s
+  pub most-upright : (s : ℕ) → f s ≤ 1 + length j
+  pub most-level : (s : ℕ) → g s ≤ 1 + length j
+
+module _ (j : Job) (rooms : test2 (length j) ≡ true) (ok : Passes j) where
+  all-vertices : vertices j ≡ true
+  unfolding vertices isVertex
+  all-vertices = all-at (all (λ (e : Entry). leb (e .to) (length j + 3))) j []
+      (λ i h. mem-all (λ (e : Entry). leb (e .to) (length j + 3)) (getD j i [])
+      (λ e m. le-leb (e .to) (length j + 3) (omega (arith, to-vertex j ok i h e m))))
+
+  -- the numbers of a job past tests 1 to 6 are those of the definition
+  pub by-definition : (a : Axis) → numbersIn a j ≡ jobNumbers a j
+  unfolding numbersIn
+  by-definition a = rw (rooms, all-vertices)
+
+  pub walls-are : wallsOf j ≡ wallsFrom (jobNumbers upright j) (jobNumbers level j)
+  unfolding wallsOf
+  walls-are = rw (by-definition upright, by-definition level)
+
+  right : (a : Axis) → Right (rules a j) (2 * (length j + 4)) (jobNumbers a j)
+  right a = jobNumbers-right a j (to-vertex j ok)
+
+  not-round : Round ≡ Numbered → ⊥
+  not-round e = let z : _≡_ {A = ℕ} 0 1 = cc in omega arith
+
+  -- THE ANSWER IS A CIRCLE, refusal 7, exactly when no whole numbers can be put in one direction or the other
+  pub circle-exactly : (wallsOf j .answer ≡ Round) ↔ (Circle (rules upright j) ⊎ Circle (rules level j))
+  unfolding wallsFrom
+  circle-exactly = (
+    λ e. forth (jobNumbers upright j) (jobNumbers level j) (right upright) (right level) (rw walls-are at e),
+    λ c. rw walls-are (back (jobNumbers upright j) (jobNumbers level j) (right upright) (right level) c),
+  )
+    where
+      forth : (a b : Option (List ℕ)) → Right (rules upright j) (2 * (length j + 4)) a → Right (rules level j) (2 * (length j + 4)) b
+          → wallsFrom a b .answer ≡ Round → Circle (rules upright j) ⊎ Circle (rules level j)
+      forth none b x y e = inl x
+      forth (some u) none x y e = inr y
+      forth (some u) (some v) x y e = absurd (not-round (sym e))
+
+      back : (a b : Option (List ℕ)) → Right (rules upright j) (2 * (length j + 4)) a → Right (rules level j) (2 * (length j + 4)) b
+          → Circle (rules upright j) ⊎ Circle (rules level j) → wallsFrom a b .answer ≡ Round
+      back none b x y c = refl
+      back (some u) none x y c = refl
+      back (some u) (some v) x y (inl c) = absurd (c (at u) (numbers-respects (rules upright j) (at u) (x .0)))
+      back (some u) (some v) x y (inr c) = absurd (c (at v) (numbers-respects (rules level j) (at v) (y .0)))
+
+  -- NUMBERED: by the text, least, and at most n + 1
+  pub numbered : wallsOf j .answer ≡ Numbered → TextNumbers j (wallsOf j)
+  unfolding wallsFrom
+  numbered e = rw walls-are (go (jobNumbers upright j) (jobNumbers level j) (right upright) (right level) (rw walls-are at e))
+    where
+      at-place : (u : List ℕ) → length u ≡ 2 * (length j + 4) → (s : ℕ) → s < 2 * (length j + 4) → getD (placed u) s 0 ≡ at u s
+      at-place u l s h = List·getD-append u (drop (length u) noughts) 0 s (omega arith) ∙ at-getD u s (omega arith)
+
+      go : (a b : Option (List ℕ)) → Right (rules upright j) (2 * (length j + 4)) a → Right (rules level j) (2 * (length j + 4)) b
+          → wallsFrom a b .answer ≡ Numbered → TextNumbers j (wallsFrom a b)
+      go none b x y q = absurd (not-round q)
+      go (some u) none x y q = absurd (not-round q)
+      go (some u) (some v) x y q = record {
+        f = at u;
+        g = at v;
+        reads = record {
+          sides = λ w h. rw (
+            at-place u (x .1) (low w) (omega arith),
+            at-place u (x .1) (high w) (omega arith),
+            at-place v (y .1) (low w) (omega arith),
+            at-place v (y .1) (high w) (omega arith),
+          );
+          sheet = rw (at-place u (x .1) (low 3) (omega arith), at-place v (y .1) (low 0) (omega arith));
+        };
+        are-upright = x .0;
+        are-level = y .0;
+        least-upright = λ h p r. numbers-least upright j (at u) h (x .0) p r;
+        least-level = λ h p r. numbers-least level j (at v) h (y .0) p r;
+        most-upright = job-bound upright j (to-vertex j ok) (at u) (x .0);
+        most-level = job-bound level j (to-vertex j ok) (at v) (y .0);
+      }
+
+-- `sheet_fits` is test 8 of the plan by these numbers
+pub sheet-fits-test8 : (j : Job) (f g : ℕ → ℕ) (w : Walls) (n : ℕ) → Reads w n f g
+    → test8 (planOf j f g) ≡ (leb (sheetOf w .width) 64 && leb (sheetOf w .height) 64)
+unfolding test8 planOf
+sheet-fits-test8 j f g w n r = ap (λ (s : Sheet). leb (s .width) 64 && leb (s .height) 64) (sym (r .sheet))
