@@ -19,14 +19,14 @@ mod order; // order.rt: an order of the rules in which few passes are needed
 mod number; // number.rt: the numbers in one direction
 
 // What running some rules did to the numbers: nothing was to do, a number was raised, or one would pass the top.
-pub enum Step {
+enum Step {
     Kept,
     Raised,
     Over,
 }
 
 // The two directions of walls.
-pub enum Direction {
+enum Direction {
     Upright,
     Level,
 }
@@ -44,7 +44,7 @@ pub struct Uprights(pub [u16; 128]);
 pub struct Levels(pub [u16; 128]);
 
 // The numbers of one direction: whether there are any, and noughts behind them or in their stead.
-pub struct Numbers {
+struct Numbers {
     pub found: bool,
     pub list: [u16; 128],
 }
