@@ -1,0 +1,298 @@
+// The wall numbers of examples: the sheet and, room by room, its four walls; or that the walls run in a circle.
+ghost use Prim.Native.Nat.{_<_};
+use jobs::Answer;
+use stars::Stars;
+use walls::Walls;
+
+// A number, with a space before it.
+fn show_number(n: u16) {
+    io::write_all(1, b" ");
+    io::print_decimal(1, n as u64);
+}
+
+// The number of an upright wall, with a space before it.
+fn show_upright(number: walls::F1) {
+    show_number(number.0);
+}
+
+// The number of a level wall, with a space before it.
+fn show_level(number: walls::F2) {
+    show_number(number.0);
+}
+
+// A vertex and its walls: left, right, lower, upper.
+fn show_sides(walls: Walls, v: usize) {
+    io::print_decimal(1, v as u64);
+    let sides = walls::sides_of(walls, v);
+    let left = sides.left;
+    let right = sides.right;
+    let lower = sides.lower;
+    let upper = sides.upper;
+    show_upright(left);
+    show_upright(right);
+    show_level(lower);
+    show_level(upper);
+    io::write_all(1, b"\n");
+}
+
+// The walls of every room.
+fn show_rooms(walls: Walls, count: usize)
+    requires { ⌜ count < 256 ⌝ }
+{
+    let mut i: usize = 0;
+    while i < count {
+        show_sides(walls, 4 + i);
+        i += 1;
+    }
+}
+
+// The width and height of the sheet, and whether test 8 is passed.
+fn show_sheet(walls: Walls) {
+    let sheet = walls::sheet_of(walls);
+    io::write_all(1, b" ");
+    io::print_decimal(1, sheet.width as u64);
+    io::write_all(1, b" ");
+    io::print_decimal(1, sheet.height as u64);
+    if walls::sheet_fits(sheet) {
+        io::write_all(1, b" fits\n");
+    } else {
+        io::write_all(1, b" does not fit\n");
+    }
+}
+
+// A name, and the walls of held stars.
+fn show_stars(name: &[u8], stars: Stars) {
+    io::write_all(1, name);
+    let walls = walls::walls_of(stars);
+    let answer = walls.answer;
+    match answer {
+        walls::Answer::Numbered => {
+            show_sheet(walls);
+            show_rooms(walls, fields::wide(stars.count));
+        }
+        walls::Answer::Circle => {
+            io::write_all(1, b" circle\n");
+        }
+    }
+}
+
+// A name, and the walls of a job; or the number of the test that it fails before it has walls.
+fn show(name: &[u8], job: &[u8]) {
+    let read = jobs::read_job(job);
+    let answer = read.answer;
+    let stars = read.stars;
+    match answer {
+        Answer::Passed => {
+            show_stars(name, stars);
+        }
+        Answer::Refused(k) => {
+            io::write_all(1, name);
+            io::write_all(1, b" refused ");
+            io::print_decimal(1, k as u64);
+            io::write_all(1, b"\n");
+        }
+    }
+}
+
+// The mark of a side, 0 past the end.
+fn mark_at(marks: &[u16; 128], side: usize) -> u16 {
+    if 128 <= side {
+        return 0;
+    }
+    marks[side]
+}
+
+// Every side marked with itself.
+fn mark_all(marks: &mut [u16; 128]) {
+    let mut side: u16 = 0;
+    while side < 128 {
+        marks[side as usize] = side;
+        side += 1;
+    }
+}
+
+// Two sides put on one wall: whatever has the second's mark gets the first's.
+fn join(marks: &mut [u16; 128], first: usize, second: usize) {
+    let to = mark_at(marks, first);
+    let from = mark_at(marks, second);
+    let mut side: usize = 0;
+    while side < 128 {
+        if marks[side] == from {
+            marks[side] = to;
+        }
+        side += 1;
+    }
+}
+
+// The upright sides of one contact joined: the right side of the one on the left, and the left side of the other.
+fn join_contact(marks: &mut [u16; 128], u: usize, v: usize, kind: u8)
+    requires { ⌜ (u < 1024) × (v < 1024) ⌝ }
+{
+    if kind == 3 {
+        join(marks, 2 * u + 1, 2 * v);
+    }
+    if kind == 1 {
+        join(marks, 2 * v + 1, 2 * u);
+    }
+}
+
+// The upright sides joined by one room's contacts.
+fn join_star(marks: &mut [u16; 128], stars: Stars, i: usize)
+    requires { ⌜ i < 256 ⌝ }
+{
+    let from = stars::held::start_of(&stars.ends, 360, i);
+    let end = stars::held::end_of(&stars.ends, 360, i);
+    let mut k = from;
+    while k < end {
+        let v = stars::held::to_at(&stars.nbr, k);
+        join_contact(marks, 4 + i, v, stars::held::kind_at(&stars.kind, k));
+        k += 1;
+    }
+}
+
+// The upright sides joined by every room's contacts.
+fn join_stars(marks: &mut [u16; 128], stars: Stars) {
+    let count = fields::wide(stars.count);
+    let mut i: usize = 0;
+    while i < count {
+        join_star(marks, stars, i);
+        i += 1;
+    }
+}
+
+// 1 for a side that has the number and after which its wall is marked, and 0 for any other.
+fn counts(numbers: &[u16; 128], marks: &[u16; 128], side: u16, number: u16) -> u64 {
+    if mark_at(marks, side as usize) == side {
+        if mark_at(numbers, side as usize) == number {
+            return 1;
+        }
+    }
+    0
+}
+
+// How many walls have the number.
+fn walls_numbered(numbers: &[u16; 128], marks: &[u16; 128], number: u16) -> u64 {
+    let mut many: u64 = 0;
+    let mut side: u16 = 0;
+    while side < 128 {
+        many = std::num::wrapping_add_u64(many, counts(numbers, marks, side, number));
+        side += 1;
+    }
+    many
+}
+
+// How many upright walls of a job have the number 2.
+fn show_twos(job: &[u8]) {
+    let read = jobs::read_job(job);
+    let stars = read.stars;
+    let mut marks = [0u16; 128];
+    mark_all(&mut marks);
+    join_stars(&mut marks, stars);
+    let walls = walls::walls_of(stars);
+    let uprights = walls.uprights;
+    let numbers = uprights.0;
+    io::write_all(1, b"upright walls numbered 2: ");
+    io::print_decimal(1, walls_numbered(&numbers, &marks, 2));
+    io::write_all(1, b"\n");
+}
+
+// Held stars with one room, whose neighbour on the right is given.
+fn one_room(east: u16) -> Stars {
+    let mut ends = [0u16; 60];
+    ends[0] = 4;
+    let mut nbr = [0u16; 360];
+    nbr[1] = 1;
+    nbr[2] = 2;
+    nbr[3] = east;
+    let mut kind = [0u8; 360];
+    kind[1] = 1;
+    kind[2] = 2;
+    kind[3] = 3;
+    Stars {
+        count: 1,
+        ends: ends,
+        nbr: nbr,
+        kind: kind,
+    }
+}
+
+// The star of a room between N and S, with its neighbours to the left and to the right.
+fn put_star(job: &mut [u8; 664], i: usize, left: u8, right: u8) {
+    if 59 < i {
+        return;
+    }
+    let at = 4 + 11 * i;
+    job[at] = 2;
+    job[at + 2] = 8;
+    job[at + 5] = left;
+    job[at + 6] = 1;
+    job[at + 7] = 2;
+    job[at + 8] = 2;
+    job[at + 9] = right;
+    job[at + 10] = 3;
+}
+
+// 60 rooms in a row.
+fn put_row(job: &mut [u8; 664]) {
+    job[0] = 1;
+    job[2] = 1;
+    job[3] = 60;
+    put_star(job, 0, 1, 5);
+    let mut i: u8 = 1;
+    while i < 59 {
+        put_star(job, i as usize, 3 + i, 5 + i);
+        i += 1;
+    }
+    put_star(job, 59, 62, 3);
+}
+
+// A name, and the walls of 60 rooms.
+fn show_sixty(name: &[u8], job: &[u8; 664]) {
+    show(name, job);
+}
+
+// The walls of 60 rooms in a row.
+fn show_row() {
+    let mut job = [0u8; 664];
+    put_row(&mut job);
+    show_sixty(b"60 in a row", &job);
+}
+
+fn main() {
+    show(
+        b"P1",
+        b"\x01\x00\x01\x01\x02\x00\x08\x00\x00\x01\x01\x02\x02\x03\x03",
+    );
+    show(b"P2", b"\x01\x00\x01\x00");
+    show(
+        b"P5",
+        b"\x01\x00\x01\x02\x02\x00\x08\x00\x00\x01\x01\x02\x02\x05\x03\x02\x00\x08\x00\x00\x04\x01\x02\x02\x03\x03",
+    );
+    show(
+        b"P6",
+        b"\x01\x00\x01\x02\x02\x00\x08\x00\x00\x01\x01\x02\x02\x03\x03\x02\x00\x08\x00\x00\x01\x01\x02\x02\x03\x03",
+    );
+    show(
+        b"P7",
+        b"\x01\x00\x01\x03\x02\x00\x08\x00\x00\x06\x01\x02\x02\x05\x03\x02\x00\x08\x00\x00\x04\x01\x02\x02\x06\x03\x02\x00\x08\x00\x00\x05\x01\x02\x02\x04\x03",
+    );
+    show(
+        b"F",
+        b"\x01\x00\x01\x04\x02\x00\x08\x00\x00\x01\x01\x06\x02\x05\x03\x02\x00\x0a\x00\x00\x04\x01\x06\x01\x07\x02\x03\x03\x02\x00\x0a\x04\x00\x01\x01\x02\x02\x07\x03\x05\x03\x02\x00\x08\x05\x00\x06\x01\x02\x02\x03\x03",
+    );
+    show(
+        b"F turned",
+        b"\x01\x00\x01\x04\x02\x00\x08\x00\x00\x01\x01\x06\x02\x05\x03\x02\x00\x0a\x00\x00\x04\x01\x06\x02\x07\x02\x03\x03\x02\x00\x0a\x05\x00\x04\x00\x01\x01\x02\x02\x07\x03\x02\x00\x08\x05\x00\x06\x01\x02\x02\x03\x03",
+    );
+    let ten =
+        b"\x01\x00\x01\x04\x02\x00\x08\x00\x00\x01\x01\x06\x02\x05\x03\x02\x00\x08\x00\x00\x04\x01\x07\x02\x03\x03\x02\x00\x08\x04\x00\x01\x01\x02\x02\x07\x03\x02\x00\x08\x05\x00\x06\x01\x02\x02\x03\x03";
+    show(b"P10", ten);
+    show_twos(ten);
+    show(
+        b"4 below 5 and 6",
+        b"\x01\x00\x01\x03\x02\x00\x0a\x06\x00\x05\x00\x01\x01\x02\x02\x03\x03\x02\x00\x08\x00\x00\x01\x01\x04\x02\x06\x03\x02\x00\x08\x00\x00\x05\x01\x04\x02\x03\x03",
+    );
+    show_row();
+    show_stars(b"one room, held", one_room(3));
+    show_stars(b"one room, neighbour 5", one_room(5));
+}
