@@ -1,8 +1,8 @@
-pub mod Grow
-pub mod Running
-pub mod Telling
-pub mod Visiting
-pub mod Settling
-pub mod Numbering
-pub mod Sheets
+mod Grow
+mod Running
+mod Telling
+mod Visiting
+mod Settling
+mod Numbering
+mod Sheets
 pub mod Corollaries
