@@ -17,12 +17,14 @@ use Rattle.floor.specs.Walls.{Axis, upright, level, low, high, at, Respects, Ci
 use Rattle.floor.specs.Walls.Walk.{Positive, numbers-respects}
 use Rattle.floor.specs.Walls.Relax.{Right}
 use Rattle.floor.specs.Walls.Rules.{to-vertex, jobNumbers-right, job-bound, numbers-least}
-use Rattle.floor.specs.Plans.{planOf, test8}
+use Rattle.floor.specs.Plans.{planOf, test8, drawn, refused}
+use Rattle.floor.specs.Plans.Held.{seven}
+use Rattle.walls.specs.declared.Answer.{Answer}
 use Rattle.walls.specs.declared.Answer.the-variants.{Numbered, Circle as Round}
 use Rattle.walls.specs.declared.Walls.{Walls}
 use Rattle.walls.specs.declared.Sides.{Sides}
 use Rattle.walls.specs.declared.Sheet.{Sheet}
-use Rattle.walls.specs.Numbers.{vertices, numbersIn, noughts, placed, wallsFrom, wallsOf, sidesOf, sheetOf}
+use Rattle.walls.specs.Numbers.{vertices, numbersIn, noughts, placed, wallsFrom, wallsOf, sidesOf, sheetOf, refusalOf}
 use Rattle.walls.proofs.Grow.{at-getD}
 
 -- THE PROMISE OF `walls_of` ALLOWS ONE ANSWER
@@ -89,6 +91,18 @@ module _ (j : Job) (rooms : test2 (length j) ≡ true) (ok : Passes j) where
       back (some u) none x y c = refl
       back (some u) (some v) x y (inl c) = absurd (c (at u) (numbers-respects (rules upright j) (at u) (x .0)))
       back (some u) (some v) x y (inr c) = absurd (c (at v) (numbers-respects (rules level j) (at v) (y .0)))
+
+  refused-round : (a : Answer) → (refusalOf a ≡ some 7) ↔ (a ≡ Round)
+  unfolding refusalOf
+  refused-round Numbered = (λ e. absurd (let z : _≡_ {A = ℕ} 0 1 = cc in omega arith), λ e. absurd (not-round (sym e)))
+  refused-round Round = (λ e. refl, λ e. refl)
+
+  -- THE ANSWER IS REFUSAL 7 exactly when drawing the job is
+  pub refused-exactly : (refusalOf (wallsOf j .answer) ≡ some 7) ↔ (drawn j ≡ refused 7)
+  refused-exactly = (
+    λ e. seven j ok .1 (circle-exactly .0 (refused-round (wallsOf j .answer) .0 e)),
+    λ e. refused-round (wallsOf j .answer) .1 (circle-exactly .1 (seven j ok .0 e)),
+  )
 
   -- NUMBERED: by the text, least, and at most n + 1
   pub numbered : wallsOf j .answer ≡ Numbered → TextNumbers j (wallsOf j)

@@ -7,6 +7,7 @@ use lib.ListN.{length, getD, replicate, drop}
 use Rattle.floor.specs.Lists.{all}
 use Rattle.floor.specs.Jobs.{Entry, Job, isVertex, test2}
 use Rattle.floor.specs.Walls.{Axis, upright, level, low, high, jobNumbers}
+use Rattle.walls.specs.declared.Answer.{Answer}
 use Rattle.walls.specs.declared.Answer.the-variants.{Numbered, Circle}
 use Rattle.walls.specs.declared.Walls.{Walls}
 use Rattle.walls.specs.declared.Numbers.{Numbers}
@@ -33,6 +34,11 @@ placed f = f ++ drop (length f) noughts
 unfoldable pub numbersHeld : Option (List ℕ) → Numbers
 numbersHeld none = record { found = false; list = noughts }
 numbersHeld (some f) = record { found = true; list = placed f }
+
+-- the refusal that an answer is, if it is one: 7 where the walls run in a circle
+unfoldable pub refusalOf : Answer → Option ℕ
+refusalOf Numbered = none
+refusalOf Circle = some 7
 
 -- the walls of which a direction has no numbers
 abbrev pub noWalls : Walls
