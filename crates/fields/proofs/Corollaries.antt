@@ -5,9 +5,13 @@ use mathlib.Core.List.{List}
 use native.Mathlib.Omega.{arith}
 use lib.ListN.{length, drop, length-drop}
 use Rattle.floor.specs.Fields.{readField}
+use Rattle.floor.specs.Calls.{Reply}
 use Rattle.fields.specs.declared.Found.{Found}
 use Rattle.fields.specs.declared.Found.the-variants.{Broken, Whole}
 use Rattle.fields.specs.Found.{found, stands}
+use Rattle.fields.specs.declared.Written.{Written}
+use Rattle.fields.specs.declared.Written.the-variants.{Wrote, TooShort}
+use Rattle.fields.specs.Writes.{replied, writing}
 
 rest-length : (s : List ℕ) (e e′ : ℕ) → e ≤ length s → e′ ≤ length s → drop e s ≡ drop e′ s → e ≡ e′
 rest-length s e e′ h h′ q = omega (arith, simp length-drop at (ap (λ (l : List ℕ). length l) q))
@@ -29,3 +33,15 @@ one-field s at (Whole t x y) (Whole u v w) p a q b =
 -- a promise that is an equation, as those of `value_at`, `after_at` and `put_head`, allows one answer
 pub one-answer : {A : Type 0} (r t w : A) → r ≡ w → t ≡ w → r ≡ t
 one-answer r t w p q = p ∙ sym q
+
+same-reply : (a b : Written) (x : Reply) → replied a ≡ x → replied b ≡ x → a ≡ b
+unfolding replied
+same-reply (Wrote n) (Wrote m) x p q = let e : n ≡ m = cc in cc
+same-reply (Wrote n) TooShort x p q = absurd (let z : _≡_ {A = ℕ} 0 1 = cc in omega arith)
+same-reply TooShort (Wrote m) x p q = absurd (let z : _≡_ {A = ℕ} 0 1 = cc in omega arith)
+same-reply TooShort TooShort x p q = refl
+
+-- a promise on writing some bytes allows one answer and one buffer
+pub one-written : (bs o : List ℕ) (a b : Written) (x y : List ℕ) → (replied a ≡ writing bs o .reply) × (x ≡ writing bs o .buffer)
+    → (replied b ≡ writing bs o .reply) × (y ≡ writing bs o .buffer) → (a ≡ b) × (x ≡ y)
+one-written bs o a b x y p q = (same-reply a b (writing bs o .reply) (p .0) (q .0), p .1 ∙ sym (q .1))

@@ -11,11 +11,24 @@ pub enum Found {
     Whole(u8, usize, usize),
 }
 
+// What writing to a lent buffer answers: the length that was written, or that the buffer is too short.
+pub enum Written {
+    Wrote(usize),
+    TooShort,
+}
+
 // A byte as a number.
 pub fn wide(byte: u8) -> usize
     ensures { λ r. ⌜ (r ≡ byte) × (r < 256) ⌝ }
 {
     byte as usize
+}
+
+// A held number, made wide.
+pub fn number(x: u16) -> usize
+    ensures { λ r. ⌜ (r ≡ x) × (r < 65536) ⌝ }
+{
+    x as usize
 }
 
 // The two-byte number at a place, high byte first.

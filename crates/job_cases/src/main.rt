@@ -1,6 +1,6 @@
 // The numbers of tests 1 to 6 on examples and at the limits, the star question, and a job written back.
+use fields::Written;
 use jobs::Answer;
-use jobs::Written;
 
 // A name, and what reading the job answers.
 fn show(name: &[u8], job: &[u8]) {

@@ -9,17 +9,16 @@ use Rattle.floor.specs.Fields.{Bytes}
 use Rattle.floor.specs.Jobs.{Job, Reading, reads, readJob, firstSix, rawStar, writeJob}
 use Rattle.floor.specs.Jobs.Facts.{six-passed}
 use Rattle.floor.specs.Jobs.Written.{write-read-job}
-use Rattle.floor.specs.Calls.{Reply, writes, wrote}
-use Rattle.fields.proofs.Corollaries.{one-answer}
+use Rattle.floor.specs.Calls.{writes, wrote}
+use Rattle.fields.specs.declared.Written.{Written}
+use Rattle.fields.specs.Writes.{replied, writing}
+use Rattle.fields.proofs.Corollaries.{one-answer, one-written}
 use Rattle.stars.specs.declared.Stars.{Stars}
 use Rattle.stars.specs.Held.{jobOf}
 use Rattle.jobs.specs.declared.Answer.{Answer}
 use Rattle.jobs.specs.declared.Answer.the-variants.{Passed, Refused}
 use Rattle.jobs.specs.declared.Read.{Read}
-use Rattle.jobs.specs.declared.Written.{Written}
-use Rattle.jobs.specs.declared.Written.the-variants.{Wrote, TooShort}
 use Rattle.jobs.specs.Reads.{said, outcome, Tells}
-use Rattle.jobs.specs.Writes.{replied, writing}
 
 same-answer : (a b : Answer) (j : Job) (x : Reading) → said a j ≡ x → said b j ≡ x → a ≡ b
 unfolding said
@@ -43,18 +42,11 @@ one-reading x r t p q =
 pub one-raw-star : (bs : List ℕ) (v : ℕ) (r t : List ℕ) → r ≡ rawStar bs v → t ≡ rawStar bs v → r ≡ t
 one-raw-star bs v r t p q = one-answer r t (rawStar bs v) p q
 
-same-reply : (a b : Written) (x : Reply) → replied a ≡ x → replied b ≡ x → a ≡ b
-unfolding replied
-same-reply (Wrote n) (Wrote m) x p q = let e : n ≡ m = cc in cc
-same-reply (Wrote n) TooShort x p q = absurd (let z : _≡_ {A = ℕ} 0 1 = cc in omega arith)
-same-reply TooShort (Wrote m) x p q = absurd (let z : _≡_ {A = ℕ} 0 1 = cc in omega arith)
-same-reply TooShort TooShort x p q = refl
-
 -- THE PROMISE OF `write_job` ALLOWS ONE ANSWER AND ONE BUFFER
 pub one-writing : (h : Stars) (o : List ℕ) (a b : Written) (x y : List ℕ)
-    → (replied a ≡ writing (jobOf h) o .reply) × (x ≡ writing (jobOf h) o .buffer)
-    → (replied b ≡ writing (jobOf h) o .reply) × (y ≡ writing (jobOf h) o .buffer) → (a ≡ b) × (x ≡ y)
-one-writing h o a b x y p q = (same-reply a b (writing (jobOf h) o .reply) (p .0) (q .0), p .1 ∙ sym (q .1))
+    → (replied a ≡ writing (writeJob (jobOf h)) o .reply) × (x ≡ writing (writeJob (jobOf h)) o .buffer)
+    → (replied b ≡ writing (writeJob (jobOf h)) o .reply) × (y ≡ writing (writeJob (jobOf h)) o .buffer) → (a ≡ b) × (x ≡ y)
+one-writing h o a b x y p q = one-written (writeJob (jobOf h)) o a b x y p q
 
 -- THE HELD JOB IS THE ONE THAT WAS READ
 pub held-is-read : (bs : List ℕ) (r : Read) → Tells r (firstSix (readJob bs)) → r .answer ≡ Passed → readJob bs ≡ reads (jobOf (r .stars))
@@ -67,7 +59,7 @@ read-written bs r b t p = write-read-job bs (jobOf (r .stars)) b (held-is-read b
 
 -- and they stand at the front of any buffer that is long enough, with what was behind them
 pub read-written-front : (bs o : List ℕ) (r : Read) → Bytes bs → Tells r (firstSix (readJob bs)) → r .answer ≡ Passed → length bs ≤ length o
-    → (writing (jobOf (r .stars)) o .reply ≡ wrote (length bs)) × (writing (jobOf (r .stars)) o .buffer ≡ bs ++ drop (length bs) o)
+    → (writing (writeJob (jobOf (r .stars))) o .reply ≡ wrote (length bs)) × (writing (writeJob (jobOf (r .stars))) o .buffer ≡ bs ++ drop (length bs) o)
 unfolding writing writes
 read-written-front bs o r b t p h =
     let e = read-written bs r b t p in

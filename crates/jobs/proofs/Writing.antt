@@ -1,23 +1,24 @@
 -- The held stars, written field by field, as the code comes by them. Assumes nothing.
 use Prim.Native.Nat.{ℕ, zero, suc, _+_, _-_, _*_, _<_, _≤_}
 use mathlib.Core.Path.{_≡_, refl, sym, _∙_, ap}
-use mathlib.Core.Bool.{true, false}
 use mathlib.Core.List.{List, [], _∷_, _++_}
 use native.Mathlib.Omega.{arith}
-use borrow.Author.Tests.{le-leb, lt-leb}
+use borrow.Author.Tests.{le-leb}
 use lib.Dec.{leb}
 use lib.ListN.{length, getD, set, length-append}
-use lib.Seq.{sets, sets-eq}
+use lib.Seq.{sets}
 use Rattle.floor.specs.Fields.{writeField}
 use Rattle.floor.specs.Jobs.{starBytes, writeStars, writeJob}
 use Rattle.floor.specs.Jobs.Written.{length-starBytes}
-use Rattle.floor.specs.Calls.{refuse, writes}
+use Rattle.floor.specs.Calls.{writes}
 use Rattle.fields.specs.Found.{withHead}
 use Rattle.stars.specs.declared.Stars.{Stars}
 use Rattle.stars.specs.Held.{toAt, entryAt, cells, startOf, endOf, heldStar, starsIn, jobOf}
 use Rattle.stars.proofs.Holding.{length-stars, held-more, held-done}
-use Rattle.jobs.specs.declared.Written.the-variants.{Wrote, TooShort}
-use Rattle.jobs.specs.Writes.{starField, replied, writing}
+use Rattle.fields.specs.declared.Written.the-variants.{Wrote, TooShort}
+use Rattle.fields.specs.Writes.{replied, writing}
+use Rattle.fields.proofs.Puts.{sets-append, short-writes, front-writes}
+use Rattle.jobs.specs.Writes.{starField}
 
 -- the entries of a part, put one by one: what is left to put, put, gives the whole
 module _ (o w nbr kind : List ℕ) (at from m i : ℕ) where
@@ -42,12 +43,6 @@ pub length-cells : (m k : ℕ) (nbr kind : List ℕ) → length (cells m k nbr k
 unfolding cells
 length-cells zero k nbr kind = refl
 length-cells (suc m) k nbr kind = ap suc (length-cells m (suc k) nbr kind)
-
-sets-append : (l : List ℕ) (i : ℕ) (xs ys : List ℕ) → sets l i (xs ++ ys) ≡ sets (sets l i xs) (i + length xs) ys
-sets-append l i [] ys = let e : i + 0 ≡ i = omega arith in rw e
-sets-append l i (x ∷ xs) ys =
-    let e : i + suc (length xs) ≡ suc i + length xs = omega arith in
-    rw e (sets-append (set l i x) (suc i) xs ys)
 
 -- the field of one star
 module _ (ends nbr kind : List ℕ) (i : ℕ) where
@@ -145,18 +140,14 @@ module _ (h : Stars) where
       (refl, rw (z, job-stars n e) k, rw (z, job-stars n e))
 
   module _ (o : List ℕ) (l : ℕ) (e : l ≡ length (writeJob (jobOf h))) where
-    pub write-short : length o < l → (replied TooShort ≡ writing (jobOf h) o .reply) × (o ≡ writing (jobOf h) o .buffer)
-    unfolding replied writing writes refuse
-    write-short k =
-        let z : leb (length (writeJob (jobOf h))) (length o) ≡ false = lt-leb (length (writeJob (jobOf h))) (length o) (omega arith) in
-        (rw z, rw z)
+    pub write-short : length o < l
+        → (replied TooShort ≡ writing (writeJob (jobOf h)) o .reply) × (o ≡ writing (writeJob (jobOf h)) o .buffer)
+    write-short k = short-writes (writeJob (jobOf h)) o (omega arith)
 
     pub write-done : (x y : List ℕ) → y ≡ withHead o 0 1 1 → x ≡ sets (set y 3 (h .count)) 4 (writeStars (jobOf h)) → l ≤ length o
-        → (replied (Wrote l) ≡ writing (jobOf h) o .reply) × (x ≡ writing (jobOf h) o .buffer)
-    unfolding replied writing writes withHead
+        → (replied (Wrote l) ≡ writing (writeJob (jobOf h)) o .reply) × (x ≡ writing (writeJob (jobOf h)) o .buffer)
+    unfolding withHead
     write-done x y ey ex k =
-        let z : leb (length (writeJob (jobOf h))) (length o) ≡ true = le-leb (length (writeJob (jobOf h))) (length o) (omega arith) in
         let r : 0 + 3 ≤ length o = omega (arith, length-job) in
         let f : x ≡ sets o 0 (writeJob (jobOf h)) = ex ∙ rw (ey, le-leb (0 + 3) (length o) r, job-bytes) in
-        let d : 0 + length (writeJob (jobOf h)) ≡ length (writeJob (jobOf h)) = omega arith in
-        (rw (z, ← e), rw z (f ∙ sets-eq (writeJob (jobOf h)) o 0 (omega arith) ∙ rw d))
+        front-writes (writeJob (jobOf h)) o x l e f (omega arith)

@@ -3,7 +3,7 @@ ghost use mathlib.Core.Path.{_≡_};
 ghost use Prim.Native.Nat.{_+_, _/_, _≤_, _<_};
 ghost use lib.ListN.{length, drop};
 ghost use Rattle.floor.specs.Jobs.{entries, pairsIn};
-ghost use Rattle.stars.specs.Held.{noStars, putStar, heldOf};
+ghost use Rattle.stars.specs.Held.{putStar, heldOf};
 ghost use Rattle.jobs.specs.Shapes.{starsAt};
 use stars::Stars;
 
@@ -12,18 +12,6 @@ fn neighbour(byte: u8) -> u16
     ensures { λ r. ⌜ r ≡ byte ⌝ }
 {
     byte as u16
-}
-
-// No stars.
-pub fn none_held() -> Stars
-    ensures { λ r. ⌜ r ≡ noStars ⌝ }
-{
-    Stars {
-        count: 0,
-        ends: [0u16; 60],
-        nbr: [0u16; 360],
-        kind: [0u8; 360],
-    }
 }
 
 // One star more, its entries from place m on.
@@ -52,7 +40,7 @@ pub fn hold(job: &[u8], from: usize, n: u8) -> Stars
     ensures { λ r. ⌜ r ≡ heldOf (starsAt n (drop from (now (job .entry)))) ⌝ }
 {
     let count = fields::wide(n);
-    let mut held = none_held();
+    let mut held = stars::held::none_held();
     let mut m: usize = 0;
     let mut at = from;
     let mut i: usize = 0;

@@ -1,9 +1,10 @@
 // Jobs from bytes: tests 1 to 6, the star question, and writing a job back.
 ghost use mathlib.Core.Path.{_≡_};
-ghost use Rattle.floor.specs.Jobs.{readJob, rawStar, firstSix};
+ghost use Rattle.floor.specs.Jobs.{readJob, rawStar, firstSix, writeJob};
 ghost use Rattle.jobs.specs.Reads.{Tells};
 ghost use Rattle.stars.specs.Held.{jobOf};
-ghost use Rattle.jobs.specs.Writes.{replied, writing};
+ghost use Rattle.fields.specs.Writes.{replied, writing};
+use fields::Written;
 use stars::Stars;
 
 mod outline; // outline.rt: the first field, the number of rooms, and the remaining shape
@@ -34,12 +35,6 @@ pub enum Answer {
 pub struct Read {
     pub answer: Answer,
     pub stars: Stars,
-}
-
-// What writing a job answers: the length that was written, or that the buffer is too short.
-pub enum Written {
-    Wrote(usize),
-    TooShort,
 }
 
 // A job's bytes, read and put through tests 1 to 6.
@@ -73,7 +68,8 @@ pub fn raw_star(job: &[u8], room: usize) -> &[u8]
 
 // The held job, written to the front of a lent buffer; nothing behind it is touched, and nothing at all where it is too short.
 pub fn write_job(stars: Stars, out: &mut [u8]) -> Written
-    ensures { λ r. ⌜ (replied r ≡ writing (jobOf stars) (now (out .entry)) .reply) × (now (out .exit) ≡ writing (jobOf stars) (now (out .entry)) .buffer) ⌝ }
+    ensures { λ r. ⌜ (replied r ≡ writing (writeJob (jobOf stars)) (now (out .entry)) .reply)
+        × (now (out .exit) ≡ writing (writeJob (jobOf stars)) (now (out .entry)) .buffer) ⌝ }
 {
     let length = put::job_length(stars);
     if out.len() < length {

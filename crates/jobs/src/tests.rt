@@ -12,7 +12,7 @@ use crate::Read;
 pub fn refused(k: u8) -> Read
     ensures { λ r. ⌜ Tells r (fails k) ⌝ }
 {
-    let stars = crate::fill::none_held();
+    let stars = stars::held::none_held();
     Read {
         answer: Answer::Refused(k),
         stars,

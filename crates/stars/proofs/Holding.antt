@@ -1,17 +1,17 @@
 -- The held stars, as the code comes by them. Assumes nothing.
 use Prim.Native.Nat.{ℕ, zero, suc, _+_, _-_, _%_, _<_, _≤_}
 use mathlib.Core.Path.{_≡_, refl, sym, _∙_, ap}
-use mathlib.Core.Bool.{Bool, true, false, not, _&&_}
+use mathlib.Core.Bool.{Bool, true, false, cond, not, _&&_, _||_}
 use mathlib.Core.List.{List, [], _∷_}
 use native.Mathlib.Omega.{arith}
-use borrow.Author.Tests.{le-leb, lt-leb, eq-eqb, ne-eqb, not-true, not-false}
-use lib.Dec.{eqb}
+use borrow.Author.Tests.{le-leb, lt-leb, leb-true, leb-false, lt-ltb, le-ltb, eq-eqb, ne-eqb, not-true, not-false}
+use lib.Dec.{leb, ltb, eqb}
 use lib.ListN.{length, getD, List·getD-eq-default}
 use Rattle.floor.specs.Lists.{all, any}
-use Rattle.floor.specs.Jobs.{Star, Job, opposite, starOf, lists, test6}
+use Rattle.floor.specs.Jobs.{Star, Job, opposite, starOf, names, lists, test6}
 use Rattle.stars.specs.declared.Stars.{Stars}
 use Rattle.stars.specs.Rooms.{allFrom}
-use Rattle.stars.specs.Held.{toAt, entryAt, cells, endOf, startOf, heldStar, starsIn, jobOf, answers, starAnswers}
+use Rattle.stars.specs.Held.{toAt, entryAt, cells, endOf, startOf, heldStar, starsIn, jobOf, placeIn, answers, starAnswers}
 use Rattle.stars.proofs.EveryRoom.{test6-stars}
 
 -- numbers past the end of an array
@@ -121,22 +121,90 @@ module _ (ends nbr kind : List ℕ) (n v u want : ℕ) where
   abbrev job : Job
   job = starsIn n 0 ends nbr kind
 
-  pub side-lists : v < 4 → false ≡ lists (starOf job v) u want
-  unfolding lists any starOf
-  side-lists h = rw (lt-leb 4 v h)
+  side-star : v < 4 → starOf job v ≡ []
+  unfolding starOf
+  side-star h = rw (lt-leb 4 v h)
 
-  pub none-lists : 4 ≤ v → n ≤ v - 4 → false ≡ lists (starOf job v) u want
-  unfolding lists any starOf
-  none-lists h k =
+  none-star : 4 ≤ v → n ≤ v - 4 → starOf job v ≡ []
+  unfolding starOf
+  none-star h k =
       let p : length job ≤ v - 4 = omega (arith, length-stars n 0 ends nbr kind) in
       rw (le-leb 4 v h, List·getD-eq-default job [] p)
 
+  pub room-star : (x y : ℕ) → 4 ≤ v → v - 4 < n → x ≡ startOf ends (length nbr) (v - 4) → y ≡ endOf ends (length nbr) (v - 4)
+      → starOf job v ≡ cells (y - x) x nbr kind
+  unfolding starOf heldStar
+  room-star x y h k ex ey =
+      let z : 0 + (v - 4) ≡ v - 4 = omega arith in
+      rw (le-leb 4 v h, star-in n 0 (v - 4) ends nbr kind k, z, heldStar, ← ex, ← ey)
+
+  pub side-lists : v < 4 → false ≡ lists (starOf job v) u want
+  unfolding lists any
+  side-lists h = rw (side-star h)
+
+  pub none-lists : 4 ≤ v → n ≤ v - 4 → false ≡ lists (starOf job v) u want
+  unfolding lists any
+  none-lists h k = rw (none-star h k)
+
   pub room-lists : (r : Bool) (x y : ℕ) → 4 ≤ v → v - 4 < n → x ≡ startOf ends (length nbr) (v - 4) → y ≡ endOf ends (length nbr) (v - 4)
       → r ≡ lists (cells (y - x) x nbr kind) u want → r ≡ lists (starOf job v) u want
-  unfolding starOf heldStar lists
-  room-lists r x y h k ex ey e =
-      let z : 0 + (v - 4) ≡ v - 4 = omega arith in
-      rw (le-leb 4 v h, star-in n 0 (v - 4) ends nbr kind k, z, heldStar, ← ex, ← ey) e
+  room-lists r x y h k ex ey e = rw (room-star x y h k ex ey) e
+
+-- the first place that names a vertex
+module _ (nbr : List ℕ) (v w end k : ℕ) where
+  pub place-here : (x : ℕ) → x ≡ toAt nbr k → x ≡ v → k < end → placeIn (end - k) k nbr v ≡ w → k ≡ w
+  unfolding placeIn
+  place-here x e q h inv =
+      let d : end - k ≡ suc (end - (k + 1)) = omega arith in
+      rw (d, ← e, eq-eqb x v q) at inv
+
+  pub place-next : (x : ℕ) → x ≡ toAt nbr k → (x ≡ v → ⊥) → k < end → placeIn (end - k) k nbr v ≡ w → placeIn (end - (k + 1)) (k + 1) nbr v ≡ w
+  unfolding placeIn
+  place-next x e q h inv =
+      let d : end - k ≡ suc (end - (k + 1)) = omega arith in
+      let s : k + 1 ≡ suc k = omega arith in
+      rw s (rw (d, ← e, ne-eqb x v q, s) at inv)
+
+  pub place-done : end ≤ k → placeIn (end - k) k nbr v ≡ w → k ≡ w
+  unfolding placeIn
+  place-done h inv =
+      let d : end - k ≡ 0 = omega arith in
+      rw d at inv
+
+-- a star names a vertex exactly where the place is one of its own
+pub names-place : (m k : ℕ) (nbr kind : List ℕ) (v : ℕ) → names (cells m k nbr kind) v ≡ ltb (placeIn m k nbr v) (k + m)
+unfolding names any cells entryAt placeIn
+names-place zero k nbr kind v = sym (le-ltb k (k + 0) (omega arith))
+names-place (suc m) k nbr kind v = go (eqb (toAt nbr k) v) (names-place m (suc k) nbr kind v)
+  where
+    go : (b : Bool) → names (cells m (suc k) nbr kind) v ≡ ltb (placeIn m (suc k) nbr v) (suc k + m)
+        → (b || names (cells m (suc k) nbr kind) v) ≡ ltb (cond b k (placeIn m (suc k) nbr v)) (k + suc m)
+    go true h = sym (lt-ltb k (k + suc m) (omega arith))
+    go false h = let s : k + suc m ≡ suc k + m = omega arith in rw s h
+
+module _ (ends nbr kind : List ℕ) (n v u : ℕ) where
+  pub side-names : v < 4 → false ≡ names (starOf (starsIn n 0 ends nbr kind) v) u
+  unfolding names any
+  side-names h = rw (side-star ends nbr kind n v u 0 h)
+
+  pub none-names : 4 ≤ v → n ≤ v - 4 → false ≡ names (starOf (starsIn n 0 ends nbr kind) v) u
+  unfolding names any
+  none-names h k = rw (none-star ends nbr kind n v u 0 h k)
+
+  pub room-names : (x y p : ℕ) → 4 ≤ v → v - 4 < n → x ≡ startOf ends (length nbr) (v - 4) → y ≡ endOf ends (length nbr) (v - 4)
+      → p ≡ placeIn (y - x) x nbr u → ltb p y ≡ names (starOf (starsIn n 0 ends nbr kind) v) u
+  unfolding names any cells placeIn
+  room-names x y p h k ex ey e = rw (room-star ends nbr kind n v u 0 x y h k ex ey) (go (leb x y) refl)
+    where
+      go : (b : Bool) → leb x y ≡ b → ltb p y ≡ names (cells (y - x) x nbr kind) u
+      go true t =
+          let l : x ≤ y = leb-true x y t in
+          let d : x + (y - x) ≡ y = omega arith in
+          rw e (sym (rw d at (names-place (y - x) x nbr kind u)))
+      go false t =
+          let l : y < x = leb-false x y t in
+          let d : y - x ≡ 0 = omega arith in
+          rw (e, d) (le-ltb x y (omega arith))
 
 -- the answer to an entry
 module _ (j : Job) (nbr kind : List ℕ) (u k v : ℕ) where

@@ -1,10 +1,10 @@
 -- Which job the held stars are. Assumes nothing.
 use Prim.Native.Nat.{ℕ, zero, suc, _+_, _-_, _%_, min}
-use mathlib.Core.Bool.{Bool, not, _||_}
+use mathlib.Core.Bool.{Bool, cond, not, _||_}
 use mathlib.Core.List.{List, [], _∷_, map}
 use lib.ListN.{length, getD, set, replicate}
 use lib.Seq.{sets}
-use lib.Dec.{leb}
+use lib.Dec.{leb, eqb}
 use Rattle.floor.specs.Lists.{all}
 use Rattle.floor.specs.Jobs.{Entry, Star, Job, opposite, starOf, lists}
 use Rattle.stars.specs.declared.Stars.{Stars}
@@ -45,6 +45,11 @@ starsIn (suc m) i ends nbr kind = heldStar ends nbr kind i ∷ starsIn m (suc i)
 -- THE JOB THAT STARS HOLD, whatever stands in them
 unfoldable pub jobOf : Stars → Job
 jobOf h = starsIn (h .count) 0 (h .ends) (h .nbr) (h .kind)
+
+-- the first of m places, from place k on, whose entry names v; the place behind them where none does
+unfoldable pub placeIn : ℕ → ℕ → List ℕ → ℕ → ℕ
+placeIn zero k nbr v = k
+placeIn (suc m) k nbr v = cond (eqb (toAt nbr k) v) k (placeIn m (suc k) nbr v)
 
 -- where the entry of room u names a room, that room lists u with the opposite kind
 unfoldable pub answers : Job → ℕ → Entry → Bool

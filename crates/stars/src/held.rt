@@ -4,15 +4,20 @@ ghost use mathlib.Core.Bool.{_&&_};
 ghost use Prim.Native.Nat.{_+_, _-_, _≤_, _<_};
 ghost use lib.Dec.{eqb};
 ghost use lib.ListN.{getD};
-ghost use Rattle.floor.specs.Jobs.{starOf, lists, test6};
-ghost use Rattle.stars.specs.Held.{toAt, entryAt, cells, endOf, startOf, heldStar, starsIn, jobOf, answers, starAnswers};
+ghost use Rattle.floor.specs.Jobs.{starOf, names, lists, test6};
+ghost use Rattle.stars.specs.Held.{toAt, entryAt, cells, endOf, startOf, heldStar, starsIn, jobOf, noStars, placeIn, answers, starAnswers};
 use crate::Stars;
 
-// A held number, made wide.
-fn number(x: u16) -> usize
-    ensures { λ r. ⌜ (r ≡ x) × (r < 65536) ⌝ }
+// No stars.
+pub fn none_held() -> Stars
+    ensures { λ r. ⌜ r ≡ noStars ⌝ }
 {
-    x as usize
+    Stars {
+        count: 0,
+        ends: [0u16; 60],
+        nbr: [0u16; 360],
+        kind: [0u8; 360],
+    }
 }
 
 // Where a star ends, of stars that lie in so many places at most.
@@ -22,7 +27,7 @@ pub fn end_of(ends: &[u16], most: usize, i: usize) -> usize
     if ends.len() <= i {
         return 0;
     }
-    let end = number(ends[i]);
+    let end = fields::number(ends[i]);
     if most < end {
         return most;
     }
@@ -46,7 +51,7 @@ pub fn to_at(nbr: &[u16], k: usize) -> usize
     if nbr.len() <= k {
         return 0;
     }
-    number(nbr[k]) % 256
+    fields::number(nbr[k]) % 256
 }
 
 // The kind at a place.
@@ -57,6 +62,42 @@ pub fn kind_at(kind: &[u8], k: usize) -> u8
         return 0;
     }
     kind[k]
+}
+
+// The first place, from one to an end, whose entry names the vertex; a place no smaller than the end where none does.
+pub fn place_in(nbr: &[u16], from: usize, end: usize, v: usize) -> usize
+    ensures { λ r. ⌜ r ≡ placeIn (end - from) from (now (nbr .entry)) v ⌝ }
+{
+    let mut k = from;
+    while k < end {
+        if to_at(nbr, k) == v {
+            return k;
+        }
+        k += 1;
+    }
+    k
+}
+
+// Whether the star of a vertex names another; a number that is no room's has no star.
+pub fn star_names<'a>(
+    ends: &'a [u16],
+    nbr: &'a [u16],
+    kind: &'a [u8],
+    count: usize,
+    v: usize,
+    u: usize,
+) -> bool
+    ensures { λ r. ⌜ r ≡ names (starOf (starsIn count 0 (now (ends .entry)) (now (nbr .entry)) (now (kind .entry))) v) u ⌝ }
+{
+    if v < 4 {
+        return false;
+    }
+    if count <= v - 4 {
+        return false;
+    }
+    let from = start_of(ends, nbr.len(), v - 4);
+    let end = end_of(ends, nbr.len(), v - 4);
+    place_in(nbr, from, end, u) < end
 }
 
 // Whether the entry at a place names the vertex with the kind.

@@ -1,22 +1,22 @@
 -- What follows from the promise of `walls_of`. Assumes nothing.
-use mathlib.Core.Path.{_≡_, refl, sym, ap, _∙_}
+use mathlib.Core.Path.{_≡_, refl, sym, ap, _∙_, subst}
 use mathlib.Core.Logic.{_⊎_, inl, inr, _↔_}
-use mathlib.Core.Bool.{true, _&&_}
+use mathlib.Core.Bool.{Bool, true, false, cond, _&&_}
 use mathlib.Core.Option.{Option, none, some}
 use mathlib.Core.List.{List, []}
 use Prim.Native.Nat.{ℕ, _+_, _*_, _≤_, _<_}
 use native.Mathlib.Omega.{arith}
-use borrow.Author.Tests.{le-leb}
+use borrow.Author.Tests.{le-leb, leb-true}
 use lib.Dec.{leb}
 use lib.ListN.{length, getD, drop, List·getD-append}
 use Rattle.floor.specs.Lists.{all}
-use Rattle.floor.specs.Lists.Laws.{all-at, mem-all}
+use Rattle.floor.specs.Lists.Laws.{all-at, all-mem, mem-all, mem-getD}
 use Rattle.floor.specs.Jobs.{Entry, Job, isVertex, test2}
 use Rattle.floor.specs.Jobs.Facts.{Passes}
 use Rattle.floor.specs.Walls.{Axis, upright, level, low, high, at, Respects, Circle, rules, jobNumbers, Numbers as TheNumbers}
 use Rattle.floor.specs.Walls.Walk.{Positive, numbers-respects}
 use Rattle.floor.specs.Walls.Relax.{Right}
-use Rattle.floor.specs.Walls.Rules.{to-vertex, jobNumbers-right, job-bound, numbers-least}
+use Rattle.floor.specs.Walls.Rules.{Named, to-vertex, jobNumbers-right, job-bound, numbers-least}
 use Rattle.floor.specs.Plans.{planOf, test8, drawn, refused}
 use Rattle.floor.specs.Plans.Held.{seven}
 use Rattle.walls.specs.declared.Answer.{Answer}
@@ -49,6 +49,86 @@ pub record TextNumbers (j : Job) (w : Walls) : Type 0 where
   pub most-upright : (s : ℕ) → f s ≤ 1 + length j
   pub most-level : (s : ℕ) → g s ≤ 1 + length j
 
+not-round : Round ≡ Numbered → ⊥
+not-round e = let z : _≡_ {A = ℕ} 0 1 = cc in omega arith
+
+-- the numbers that any walls with numbers have, whatever the stars
+pub record Counted (j : Job) (w : Walls) : Type 0 where
+  pub xs : List ℕ
+  pub ys : List ℕ
+  pub is-upright : numbersIn upright j ≡ some xs
+  pub is-level : numbersIn level j ≡ some ys
+  pub rooms : test2 (length j) ≡ true
+  pub named : Named j
+  pub reads : Reads w (length j + 4) (at xs) (at ys)
+
+module _ (j : Job) where
+  vertices-named : vertices j ≡ true → Named j
+  unfolding vertices isVertex
+  vertices-named h i l e m =
+      let s = all-mem (all (λ (e : Entry). leb (e .to) (length j + 3))) j h (getD j i []) (mem-getD j i [] l) in
+      let b = leb-true (e .to) (length j + 3) (all-mem (λ (e : Entry). leb (e .to) (length j + 3)) (getD j i []) s e m) in
+      omega (arith, b)
+
+  -- a direction has numbers only where the job can be numbered, and there are as many as sides
+  sides-numbered : (a : Axis) (f : List ℕ) → numbersIn a j ≡ some f
+      → (test2 (length j) ≡ true) × (vertices j ≡ true) × (length f ≡ 2 * (length j + 4))
+  unfolding numbersIn
+  sides-numbered a f e = go (test2 (length j)) refl (vertices j) refl e
+    where
+      nothing : none ≡ some f → ⊥
+      nothing e = let z : _≡_ {A = ℕ} 0 1 = cc in omega arith
+
+      go : (b : Bool) → test2 (length j) ≡ b → (c : Bool) → vertices j ≡ c → cond (b && c) (jobNumbers a j) none ≡ some f
+          → (test2 (length j) ≡ true) × (vertices j ≡ true) × (length f ≡ 2 * (length j + 4))
+      go false x c y q = absurd (nothing q)
+      go true x false y q = absurd (nothing q)
+      go true x true y q = (x, y, subst (Right (rules a j) (2 * (length j + 4))) q (jobNumbers-right a j (vertices-named y)) .1)
+
+  at-place : (u : List ℕ) → length u ≡ 2 * (length j + 4) → (s : ℕ) → s < 2 * (length j + 4) → getD (placed u) s 0 ≡ at u s
+  at-place u l s h = List·getD-append u (drop (length u) noughts) 0 s (omega arith) ∙ at-getD u s (omega arith)
+
+  -- WALLS WITH NUMBERS: both directions have them, and the sides read them
+  pub counted : wallsOf j .answer ≡ Numbered → Counted j (wallsOf j)
+  unfolding wallsOf wallsFrom
+  counted e = go (numbersIn upright j) refl (numbersIn level j) refl e
+    where
+      go : (a : Option (List ℕ)) → numbersIn upright j ≡ a → (b : Option (List ℕ)) → numbersIn level j ≡ b → wallsFrom a b .answer ≡ Numbered
+          → Counted j (wallsFrom a b)
+      go none p b q e = absurd (not-round e)
+      go (some u) p none q e = absurd (not-round e)
+      go (some u) p (some v) q e =
+          let (r, vs, x) = sides-numbered upright u p in
+          let (r′, vs′, y) = sides-numbered level v q in
+          record {
+            xs = u;
+            ys = v;
+            is-upright = p;
+            is-level = q;
+            rooms = r;
+            named = vertices-named vs;
+            reads = record {
+              sides = λ w h. rw (
+                at-place u x (low w) (omega arith),
+                at-place u x (high w) (omega arith),
+                at-place v y (low w) (omega arith),
+                at-place v y (high w) (omega arith),
+              );
+              sheet = rw (at-place u x (low 3) (omega arith), at-place v y (low 0) (omega arith));
+            };
+          }
+
+  -- WALLS IN A CIRCLE: a direction has no numbers
+  pub circled : wallsOf j .answer ≡ Round → (numbersIn upright j ≡ none) ⊎ (numbersIn level j ≡ none)
+  unfolding wallsOf wallsFrom
+  circled e = go (numbersIn upright j) refl (numbersIn level j) refl e
+    where
+      go : (a : Option (List ℕ)) → numbersIn upright j ≡ a → (b : Option (List ℕ)) → numbersIn level j ≡ b → wallsFrom a b .answer ≡ Round
+          → (numbersIn upright j ≡ none) ⊎ (numbersIn level j ≡ none)
+      go none p b q e = inl p
+      go (some u) p none q e = inr q
+      go (some u) p (some v) q e = absurd (not-round (sym e))
+
 module _ (j : Job) (rooms : test2 (length j) ≡ true) (ok : Passes j) where
   all-vertices : vertices j ≡ true
   unfolding vertices isVertex
@@ -67,9 +147,6 @@ module _ (j : Job) (rooms : test2 (length j) ≡ true) (ok : Passes j) where
 
   right : (a : Axis) → Right (rules a j) (2 * (length j + 4)) (jobNumbers a j)
   right a = jobNumbers-right a j (to-vertex j ok)
-
-  not-round : Round ≡ Numbered → ⊥
-  not-round e = let z : _≡_ {A = ℕ} 0 1 = cc in omega arith
 
   -- THE ANSWER IS A CIRCLE, refusal 7, exactly when no whole numbers can be put in one direction or the other
   pub circle-exactly : (wallsOf j .answer ≡ Round) ↔ (Circle (rules upright j) ⊎ Circle (rules level j))
@@ -106,34 +183,20 @@ module _ (j : Job) (rooms : test2 (length j) ≡ true) (ok : Passes j) where
 
   -- NUMBERED: by the text, least, and at most n + 1
   pub numbered : wallsOf j .answer ≡ Numbered → TextNumbers j (wallsOf j)
-  unfolding wallsFrom
-  numbered e = rw walls-are (go (jobNumbers upright j) (jobNumbers level j) (right upright) (right level) (rw walls-are at e))
-    where
-      at-place : (u : List ℕ) → length u ≡ 2 * (length j + 4) → (s : ℕ) → s < 2 * (length j + 4) → getD (placed u) s 0 ≡ at u s
-      at-place u l s h = List·getD-append u (drop (length u) noughts) 0 s (omega arith) ∙ at-getD u s (omega arith)
-
-      go : (a b : Option (List ℕ)) → Right (rules upright j) (2 * (length j + 4)) a → Right (rules level j) (2 * (length j + 4)) b
-          → wallsFrom a b .answer ≡ Numbered → TextNumbers j (wallsFrom a b)
-      go none b x y q = absurd (not-round q)
-      go (some u) none x y q = absurd (not-round q)
-      go (some u) (some v) x y q = record {
-        f = at u;
-        g = at v;
-        reads = record {
-          sides = λ w h. rw (
-            at-place u (x .1) (low w) (omega arith),
-            at-place u (x .1) (high w) (omega arith),
-            at-place v (y .1) (low w) (omega arith),
-            at-place v (y .1) (high w) (omega arith),
-          );
-          sheet = rw (at-place u (x .1) (low 3) (omega arith), at-place v (y .1) (low 0) (omega arith));
-        };
+  numbered e =
+      let c = counted j e in
+      let x = subst (Right (rules upright j) (2 * (length j + 4))) (sym (by-definition upright) ∙ c .is-upright) (right upright) in
+      let y = subst (Right (rules level j) (2 * (length j + 4))) (sym (by-definition level) ∙ c .is-level) (right level) in
+      record {
+        f = at (c .xs);
+        g = at (c .ys);
+        reads = c .reads;
         are-upright = x .0;
         are-level = y .0;
-        least-upright = λ h p r. numbers-least upright j (at u) h (x .0) p r;
-        least-level = λ h p r. numbers-least level j (at v) h (y .0) p r;
-        most-upright = job-bound upright j (to-vertex j ok) (at u) (x .0);
-        most-level = job-bound level j (to-vertex j ok) (at v) (y .0);
+        least-upright = λ h p r. numbers-least upright j (at (c .xs)) h (x .0) p r;
+        least-level = λ h p r. numbers-least level j (at (c .ys)) h (y .0) p r;
+        most-upright = job-bound upright j (to-vertex j ok) (at (c .xs)) (x .0);
+        most-level = job-bound level j (to-vertex j ok) (at (c .ys)) (y .0);
       }
 
 -- `sheet_fits` is test 8 of the plan by these numbers

@@ -212,8 +212,8 @@ pub fn sheet_of(walls: Walls) -> Sheet
     let x = left.0;
     let y = lower.0;
     Sheet {
-        width: steps::wide(x) + 1,
-        height: steps::wide(y) + 1,
+        width: fields::number(x) + 1,
+        height: fields::number(y) + 1,
     }
 }
 

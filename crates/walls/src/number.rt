@@ -121,7 +121,7 @@ fn number_at(list: &[u16], i: usize) -> usize
     if list.len() <= i {
         return 0;
     }
-    crate::steps::wide(list[i])
+    fields::number(list[i])
 }
 
 // The visits from one place of an order to another. Whatever the order names, only the time goes by it.

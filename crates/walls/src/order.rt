@@ -83,7 +83,7 @@ fn get(sheet: &[u16], part: usize, i: usize) -> usize
     if sheet.len() - part <= i {
         return 0;
     }
-    crate::steps::wide(sheet[part + i])
+    fields::number(sheet[part + i])
 }
 
 // A number laid in a cell of a part of the sheet, and nothing past its end.

@@ -6,13 +6,6 @@ ghost use lib.ListN.{length};
 ghost use Rattle.walls.specs.Steps.{Lifts, Ran, ruleOf, both, isOver};
 use crate::Step;
 
-// A number, made wide.
-pub fn wide(x: u16) -> usize
-    ensures { λ r. ⌜ (r ≡ x) × (r < 65536) ⌝ }
-{
-    x as usize
-}
-
 // What one step and then another did.
 pub fn both_of(first: Step, then: Step) -> Step
     ensures { λ r. ⌜ r ≡ both first then ⌝ }
@@ -44,11 +37,11 @@ fn lift(f: &mut [u16], a: usize, b: usize, w: u16, top: u16) -> Step
     requires { ⌜ (a < length (now f)) × (b < length (now f)) ⌝ }
     ensures { λ r. ⌜ Lifts r (now (f .entry)) (now (f .exit)) a b w top ⌝ }
 {
-    let v = wide(f[a]) + wide(w);
-    if v <= wide(f[b]) {
+    let v = fields::number(f[a]) + fields::number(w);
+    if v <= fields::number(f[b]) {
         return Step::Kept;
     }
-    if wide(top) < v {
+    if fields::number(top) < v {
         return Step::Over;
     }
     f[b] = v as u16;

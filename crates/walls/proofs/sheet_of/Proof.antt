@@ -9,14 +9,14 @@ sides-of-requires c κs = search needs
 sides-of-requires-2 : tie.Need-sides-of-requires-2
 sides-of-requires-2 c κs = search needs
 
-wide-requires : tie.Need-wide-requires
-wide-requires c κs = search needs
+number-requires : tie.Need-number-requires
+number-requires c κs = search needs
 
 add-t9 : tie.Need-add-t9
 add-t9 c = search needs
 
-wide-requires-2 : tie.Need-wide-requires-2
-wide-requires-2 c κs = search needs
+number-requires-2 : tie.Need-number-requires-2
+number-requires-2 c κs = search needs
 
 add-t11 : tie.Need-add-t11
 add-t11 c = search needs
@@ -30,8 +30,8 @@ sheet-of-spec =
     (tie.spec
     sides-of-requires
     sides-of-requires-2
-    wide-requires
+    number-requires
     add-t9
-    wide-requires-2
+    number-requires-2
     add-t11
     returns)

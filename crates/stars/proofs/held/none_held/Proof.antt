@@ -1,7 +1,7 @@
 use mathlib.Core.Path.{refl}
 use Rattle.stars.specs.Held.{noStars}
-use Rattle.jobs.proofs.fill.none_held.Statement.{statement}
-use Rattle.jobs.proofs.fill.none_held.Tie as tie
+use Rattle.stars.proofs.held.none_held.Statement.{statement}
+use Rattle.stars.proofs.held.none_held.Tie as tie
 
 returns : tie.Need-returns
 unfolding noStars
