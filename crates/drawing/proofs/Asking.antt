@@ -1,0 +1,242 @@
+-- The held rectangles, entries and stars asked one by one. Assumes nothing.
+use Prim.Native.Nat.{ℕ, zero, suc, _+_, _-_, _*_, _<_, _≤_}
+use mathlib.Core.Path.{_≡_, refl, sym, _∙_, ap}
+use mathlib.Core.Bool.{Bool, true, false, not, _&&_}
+use mathlib.Core.List.{List, [], _∷_, map}
+use native.Mathlib.Omega.{arith}
+use borrow.Author.Tests.{eq-eqb, ne-eqb, not-true, not-false}
+use lib.Dec.{eqb}
+use lib.ListN.{length, getD, List·getD-eq-default}
+use Rattle.floor.specs.Lists.{all, pairwise, sum}
+use Rattle.floor.specs.Jobs.{Entry, Star}
+use Rattle.floor.specs.Plans.{Rect, nowhere, area, rectOf, inside, follows, inOrder, drawable}
+use Rattle.stars.specs.declared.Stars.{Stars}
+use Rattle.stars.specs.Held.{toAt, entryAt, cells, startOf, endOf, heldStar, starsIn, jobOf}
+use Rattle.stars.proofs.Holding.{cells-more, cells-done, held-more, held-done}
+use Rattle.drawing.specs.declared.Rect.{Rect as HeldRect}
+use Rattle.drawing.specs.declared.Plan.{Plan as HeldPlan}
+use Rattle.drawing.specs.declared.Item.{Item}
+use Rattle.drawing.specs.declared.Item.the-variants.{Apart, Joined, NoCorner}
+use Rattle.drawing.specs.Rects.{rectIn, rectAt, rectsIn, planIn}
+use Rattle.drawing.specs.Tests.{insideSheet, pairOk, ordered, starOrdered}
+
+-- the numbers of a rectangle
+pub numbers-at : (l : List ℕ) (v a b c d : ℕ) → a ≡ getD l (4 * v) 0 → b ≡ getD l (4 * v + 1) 0 → c ≡ getD l (4 * v + 2) 0 → d ≡ getD l (4 * v + 3) 0
+    → rectIn (record { vertex = v; x1 = a; y1 = b; x2 = c; y2 = d }) ≡ rectAt l v
+unfolding rectIn rectAt
+numbers-at l v a b c d ea eb ec ed = rw (ea, eb, ec, ed)
+
+-- the next rectangle, and those behind it
+module _ (l : List ℕ) (n v : ℕ) where
+  pub rects-more : v < n → rectsIn (n - v) v l ≡ rectAt l v ∷ rectsIn (n - (v + 1)) (v + 1) l
+  unfolding rectsIn
+  rects-more h =
+      let d : n - v ≡ suc (n - (v + 1)) = omega arith in
+      let s : v + 1 ≡ suc v = omega arith in
+      rw (d, s)
+
+  pub rects-done : n ≤ v → rectsIn (n - v) v l ≡ []
+  unfolding rectsIn
+  rects-done h =
+      let d : n - v ≡ 0 = omega arith in
+      rw d
+
+-- the rectangle of a vertex
+rect-in : (m i k : ℕ) (l : List ℕ) → k < m → getD (rectsIn m i l) k nowhere ≡ rectAt l (i + k)
+unfolding rectsIn
+rect-in zero i k l h = absurd (omega arith)
+rect-in (suc m) i zero l h = let e : i + 0 ≡ i = omega arith in rw e
+rect-in (suc m) i (suc k) l h =
+    let e : i + suc k ≡ suc i + k = omega arith in
+    rw e (rect-in m (suc i) k l (omega arith))
+
+pub length-rects : (m i : ℕ) (l : List ℕ) → length (rectsIn m i l) ≡ m
+unfolding rectsIn
+length-rects zero i l = refl
+length-rects (suc m) i l = ap suc (length-rects m (suc i) l)
+
+module _ (l : List ℕ) (n v : ℕ) where
+  pub rect-none : n ≤ v → rectIn (record { vertex = 0; x1 = 0; y1 = 0; x2 = 0; y2 = 0 }) ≡ getD (rectsIn n 0 l) v nowhere
+  unfolding rectIn
+  rect-none h =
+      let p : length (rectsIn n 0 l) ≤ v = omega (arith, length-rects n 0 l) in
+      sym (List·getD-eq-default (rectsIn n 0 l) nowhere p)
+
+  pub rect-here : (r : HeldRect) → v < n → rectIn r ≡ rectAt l v → rectIn r ≡ getD (rectsIn n 0 l) v nowhere
+  rect-here r h e = let z : 0 + v ≡ v = omega arith in rw (rect-in n 0 v l h, z) e
+
+-- rectangles asked one by one: r is the next
+module _ (l : List ℕ) (n v : ℕ) (w : Bool) where
+  module _ (q : Rect → Bool) where
+    module _ (r : HeldRect) (b : Bool) (inv : all q (rectsIn (n - v) v l) ≡ w) (h : v < n) (e : rectIn r ≡ rectAt l v) (g : b ≡ q (rectIn r)) where
+      pub rects-false : not b ≡ true → false ≡ w
+      unfolding all
+      rects-false t = rw (rects-more l n v h, ← e, ← g, not-true b t) at inv
+
+      pub rects-next : not b ≡ false → all q (rectsIn (n - (v + 1)) (v + 1) l) ≡ w
+      unfolding all
+      rects-next t = rw (rects-more l n v h, ← e, ← g, not-false b t) at inv
+
+    pub rects-all : all q (rectsIn (n - v) v l) ≡ w → n ≤ v → true ≡ w
+    unfolding all
+    rects-all inv h = rw (rects-done l n v h) at inv
+
+  -- and each with those behind it
+  module _ (q : Rect → Rect → Bool) where
+    module _ (r : HeldRect) (b : Bool) (inv : pairwise q (rectsIn (n - v) v l) ≡ w) (h : v < n) (e : rectIn r ≡ rectAt l v)
+        (g : b ≡ all (q (rectIn r)) (rectsIn (n - (v + 1)) (v + 1) l)) where
+      pub pairs-false : not b ≡ true → false ≡ w
+      unfolding pairwise
+      pairs-false t = rw (rects-more l n v h, ← e, ← g, not-true b t) at inv
+
+      pub pairs-next : not b ≡ false → pairwise q (rectsIn (n - (v + 1)) (v + 1) l) ≡ w
+      unfolding pairwise
+      pairs-next t = rw (rects-more l n v h, ← e, ← g, not-false b t) at inv
+
+    pub pairs-all : pairwise q (rectsIn (n - v) v l) ≡ w → n ≤ v → true ≡ w
+    unfolding pairwise
+    pairs-all inv h = rw (rects-done l n v h) at inv
+
+-- entries asked one by one
+module _ (nbr kind : List ℕ) (end k : ℕ) (w : Bool) where
+  module _ (q : Entry → Bool) where
+    module _ (b : Bool) (inv : all q (cells (end - k) k nbr kind) ≡ w) (h : k < end) (g : b ≡ q (entryAt nbr kind k)) where
+      pub entries-false : not b ≡ true → false ≡ w
+      unfolding all
+      entries-false t = rw (cells-more nbr kind end k h, ← g, not-true b t) at inv
+
+      pub entries-next : not b ≡ false → all q (cells (end - (k + 1)) (k + 1) nbr kind) ≡ w
+      unfolding all
+      entries-next t = rw (cells-more nbr kind end k h, ← g, not-false b t) at inv
+
+    pub entries-all : all q (cells (end - k) k nbr kind) ≡ w → end ≤ k → true ≡ w
+    unfolding all
+    entries-all inv h = rw (cells-done nbr kind end k h) at inv
+
+  -- and each with those behind it
+  module _ (q : Entry → Entry → Bool) where
+    module _ (b : Bool) (inv : pairwise q (cells (end - k) k nbr kind) ≡ w) (h : k < end)
+        (g : b ≡ all (q (entryAt nbr kind k)) (cells (end - (k + 1)) (k + 1) nbr kind)) where
+      pub part-false : not b ≡ true → false ≡ w
+      unfolding pairwise
+      part-false t = rw (cells-more nbr kind end k h, ← g, not-true b t) at inv
+
+      pub part-next : not b ≡ false → pairwise q (cells (end - (k + 1)) (k + 1) nbr kind) ≡ w
+      unfolding pairwise
+      part-next t = rw (cells-more nbr kind end k h, ← g, not-false b t) at inv
+
+    pub part-all : pairwise q (cells (end - k) k nbr kind) ≡ w → end ≤ k → true ≡ w
+    unfolding pairwise
+    part-all inv h = rw (cells-done nbr kind end k h) at inv
+
+-- stars asked one by one
+module _ (ends nbr kind : List ℕ) (n i : ℕ) (w : Bool) (q : Star → Bool) where
+  module _ (b : Bool) (inv : all q (starsIn (n - i) i ends nbr kind) ≡ w) (h : i < n) (g : b ≡ q (heldStar ends nbr kind i)) where
+    pub stars-false : not b ≡ true → false ≡ w
+    unfolding all
+    stars-false t = rw (held-more ends nbr kind n i h, ← g, not-true b t) at inv
+
+    pub stars-next : not b ≡ false → all q (starsIn (n - (i + 1)) (i + 1) ends nbr kind) ≡ w
+    unfolding all
+    stars-next t = rw (held-more ends nbr kind n i h, ← g, not-false b t) at inv
+
+  pub stars-all : all q (starsIn (n - i) i ends nbr kind) ≡ w → n ≤ i → true ≡ w
+  unfolding all
+  stars-all inv h = rw (held-done ends nbr kind n i h) at inv
+
+-- the areas, added up
+module _ (l : List ℕ) (n v w total : ℕ) where
+  pub sum-next : (a : ℕ) (r : HeldRect) → total + sum (map area (rectsIn (n - v) v l)) ≡ w → v < n → rectIn r ≡ rectAt l v → a ≡ area (rectIn r)
+      → total + a + sum (map area (rectsIn (n - (v + 1)) (v + 1) l)) ≡ w
+  unfolding sum
+  sum-next a r inv h e f =
+      let i : total + (area (rectAt l v) + sum (map area (rectsIn (n - (v + 1)) (v + 1) l))) ≡ w = rw (rects-more l n v h) at inv in
+      let g : a ≡ area (rectAt l v) = rw (← e) f in
+      omega arith
+
+  pub sum-done : total + sum (map area (rectsIn (n - v) v l)) ≡ w → n ≤ v → total ≡ w
+  unfolding sum
+  sum-done inv h = let i : total + 0 ≡ w = rw (rects-done l n v h) at inv in omega arith
+
+-- they fill the sheet
+pub fills : (a b m n x y : ℕ) → a ≡ b → m ≡ x → n ≡ y → eqb a (m * n) ≡ eqb b (x * y)
+fills a b m n x y e f g = rw (e, f, g)
+
+-- two entries
+module _ (rs : List Rect) (nbr kind : List ℕ) (a b : ℕ) (k m : ℕ) (ek : k ≡ getD kind a 0) (em : m ≡ getD kind b 0) where
+  pub order-free : (k ≡ m → ⊥) → true ≡ ordered rs (entryAt nbr kind a) (entryAt nbr kind b)
+  unfolding ordered inOrder entryAt
+  order-free h = rw (← ek, ← em, ne-eqb k m h)
+
+  pub order-asked : (t : Bool) (x y : ℕ) (r s : HeldRect) → k ≡ m → x ≡ toAt nbr a → rectIn r ≡ getD rs x nowhere → y ≡ toAt nbr b
+      → rectIn s ≡ getD rs y nowhere → t ≡ follows k (rectIn r) (rectIn s) → t ≡ ordered rs (entryAt nbr kind a) (entryAt nbr kind b)
+  unfolding ordered inOrder entryAt rectOf
+  order-asked t x y r s h ex er ey es f = rw (← ek, ← em, eq-eqb k m h, ← ex, ← er, ← ey, ← es) f
+
+-- a star as a whole
+pub star-whole : (rs : List Rect) (ends nbr kind : List ℕ) (i x y : ℕ) (t : Bool) → x ≡ startOf ends (length nbr) i → y ≡ endOf ends (length nbr) i
+    → t ≡ starOrdered rs (cells (y - x) x nbr kind) → t ≡ starOrdered rs (heldStar ends nbr kind i)
+unfolding heldStar
+star-whole rs ends nbr kind i x y t ex ey e = rw (← ex, ← ey) e
+
+-- a plan
+module _ (p : HeldPlan) (y : ℕ) (ey : y ≡ p .rooms) where
+  pub rect-of-plan : (v : ℕ) (r : HeldRect) → rectIn r ≡ getD (rectsIn (y + 4) 0 (p .rects)) v nowhere → rectIn r ≡ rectOf (planIn p) v
+  unfolding rectOf planIn
+  rect-of-plan v r e = rw (← ey) e
+
+  module _ (h : Stars) (x : ℕ) (ex : x ≡ h .count) where
+    pub pairs-of-plan : (what : Item) (b : Bool) → b ≡ pairwise (pairOk what (starsIn x 0 (h .ends) (h .nbr) (h .kind))) (rectsIn (y + 4) 0 (p .rects))
+        → b ≡ pairwise (pairOk what (jobOf h)) (planIn p .rects)
+    unfolding jobOf planIn
+    pairs-of-plan what b e = rw (← ex, ← ey) e
+
+    -- the drawing test, item by item
+    drawable-is : drawable (jobOf h) (planIn p)
+        ≡ (all (insideSheet (p .width) (p .height)) (planIn p .rects)
+        && pairwise (pairOk Apart (jobOf h)) (planIn p .rects)
+        && eqb (sum (map area (planIn p .rects))) (p .width * p .height)
+        && pairwise (pairOk Joined (jobOf h)) (planIn p .rects)
+        && pairwise (pairOk NoCorner (jobOf h)) (planIn p .rects)
+        && all (starOrdered (planIn p .rects)) (jobOf h))
+    unfolding drawable inside insideSheet pairOk starOrdered ordered inOrder rectOf planIn
+    drawable-is = refl
+
+    module _ (a : Bool) (ea : a ≡ all (insideSheet (p .width) (p .height)) (rectsIn (y + 4) 0 (p .rects))) where
+      inside-is : all (insideSheet (p .width) (p .height)) (planIn p .rects) ≡ a
+      unfolding planIn
+      inside-is = rw (← ey) (sym ea)
+
+      pub drawable-outside : not a ≡ true → false ≡ drawable (jobOf h) (planIn p)
+      drawable-outside t = rw (drawable-is, inside-is, not-true a t)
+
+      module _ (b : Bool) (ta : not a ≡ false) (eb : b ≡ pairwise (pairOk Apart (jobOf h)) (planIn p .rects)) where
+        pub drawable-over : not b ≡ true → false ≡ drawable (jobOf h) (planIn p)
+        drawable-over t = rw (drawable-is, inside-is, not-false a ta, ← eb, not-true b t)
+
+        module _ (c : Bool) (tb : not b ≡ false) (ec : c ≡ eqb (sum (map area (rectsIn (y + 4) 0 (p .rects)))) (p .width * p .height)) where
+          areas-is : eqb (sum (map area (planIn p .rects))) (p .width * p .height) ≡ c
+          unfolding planIn
+          areas-is = rw (← ey) (sym ec)
+
+          pub drawable-gap : not c ≡ true → false ≡ drawable (jobOf h) (planIn p)
+          drawable-gap t = rw (drawable-is, inside-is, not-false a ta, ← eb, not-false b tb, areas-is, not-true c t)
+
+          module _ (d : Bool) (tc : not c ≡ false) (ed : d ≡ pairwise (pairOk Joined (jobOf h)) (planIn p .rects)) where
+            pub drawable-strange : not d ≡ true → false ≡ drawable (jobOf h) (planIn p)
+            drawable-strange t = rw (drawable-is, inside-is, not-false a ta, ← eb, not-false b tb, areas-is, not-false c tc, ← ed, not-true d t)
+
+            module _ (e : Bool) (td : not d ≡ false) (ee : e ≡ pairwise (pairOk NoCorner (jobOf h)) (planIn p .rects)) where
+              -- what is left is the order
+              order-left : not e ≡ false → drawable (jobOf h) (planIn p) ≡ all (starOrdered (planIn p .rects)) (jobOf h)
+              order-left te =
+                  rw (drawable-is, inside-is, not-false a ta, ← eb, not-false b tb, areas-is, not-false c tc, ← ed, not-false d td, ← ee, not-false e te)
+
+              pub drawable-corner : not e ≡ true → false ≡ drawable (jobOf h) (planIn p)
+              drawable-corner t =
+                  rw (drawable-is, inside-is, not-false a ta, ← eb, not-false b tb, areas-is, not-false c tc, ← ed, not-false d td, ← ee, not-true e t)
+
+              pub drawable-order : (f : Bool) → not e ≡ false
+                  → f ≡ all (starOrdered (rectsIn (y + 4) 0 (p .rects))) (starsIn x 0 (h .ends) (h .nbr) (h .kind)) → f ≡ drawable (jobOf h) (planIn p)
+              unfolding planIn jobOf
+              drawable-order f te ef = (rw (ex, ey) at ef) ∙ sym (order-left te)

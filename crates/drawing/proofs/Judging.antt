@@ -1,0 +1,220 @@
+-- Tests 7 to 9 of any held stars, as the code comes by them. Assumes nothing.
+use Prim.Native.Nat.{ℕ, zero, suc, _+_, _*_, _-_, _≤_, _<_}
+use mathlib.Core.Path.{_≡_, refl, sym, ap, _∙_}
+use mathlib.Core.Logic.{_⊎_, inl, inr}
+use mathlib.Core.Bool.{Bool, true, false, not, _&&_}
+use mathlib.Core.Option.{Option, none, some}
+use mathlib.Core.List.{List, [], _∷_, _++_, map, append-assoc}
+use native.Mathlib.Omega.{arith}
+use borrow.Author.Tests.{leb-true, not-true, not-false}
+use lib.Dec.{leb}
+use lib.ListN.{length, getD, drop, length-append, length-replicate}
+use lib.Seq.{sets, sets-eq, getD-append-add}
+use Rattle.floor.specs.Lists.{upFrom}
+use Rattle.floor.specs.Lists.Laws.{and-left, and-right}
+use Rattle.floor.specs.Jobs.{Job, test2, rooms}
+use Rattle.floor.specs.Walls.{upright, level, low, high, at}
+use Rattle.floor.specs.Plans.{Rect, nowhere, Plan, rectOf, roomRect, planOf, drawable, Answer, refused, held, test8, tested, planned}
+use Rattle.floor.specs.Plans.Held.{past-true, past-false}
+use Rattle.floor.specs.Floor.{Complete}
+use Rattle.floor.specs.Floor.Ours.{plan-complete}
+use Rattle.stars.specs.declared.Stars.{Stars}
+use Rattle.stars.specs.Held.{jobOf}
+use Rattle.stars.proofs.Holding.{length-stars}
+use Rattle.walls.specs.declared.Answer.the-variants.{Numbered, Circle}
+use Rattle.walls.specs.declared.Walls.{Walls}
+use Rattle.walls.specs.declared.Sides.{Sides}
+use Rattle.walls.specs.declared.Sheet.{Sheet}
+use Rattle.walls.specs.Numbers.{numbersIn, wallsOf, sheetOf}
+use Rattle.walls.proofs.Corollaries.{Reads, Counted, counted, circled, sheet-fits-test8}
+use Rattle.drawing.specs.declared.Answer.the-variants.{Drawn, Refused}
+use Rattle.drawing.specs.declared.Plan.{Plan as HeldPlan}
+use Rattle.drawing.specs.declared.Drawing.{Drawing}
+use Rattle.drawing.specs.Rects.{rectAt, rectsIn, planIn, flat, noughts, noPlan, heldPlan}
+use Rattle.drawing.specs.Drawn.{drawnAny, walled, frame, planOn, said, kept, Draws}
+
+-- ---- what is held of a plan gives it back
+
+same-rect : (r : Rect) (v a b c d : ℕ) → v ≡ r .vertex → a ≡ r .x1 → b ≡ r .y1 → c ≡ r .x2 → d ≡ r .y2
+    → record { vertex = v; x1 = a; y1 = b; x2 = c; y2 = d } ≡ r
+same-rect r v a b c d ev ea eb ec ed = rw (ev, ea, eb, ec, ed)
+
+-- the four numbers of a rectangle
+abbrev fourOf : Rect → List ℕ
+fourOf r = r .x1 ∷ r .y1 ∷ r .x2 ∷ r .y2 ∷ []
+
+first-back : (r : Rect) (a t : List ℕ) (v : ℕ) → length a ≡ 4 * v → r .vertex ≡ v → rectAt (a ++ (fourOf r ++ t)) v ≡ r
+unfolding rectAt
+first-back r a t v l e =
+    let e₀ : 4 * v ≡ length a + 0 = omega arith in
+    let e₁ : 4 * v + 1 ≡ length a + 1 = omega arith in
+    let e₂ : 4 * v + 2 ≡ length a + 2 = omega arith in
+    let e₃ : 4 * v + 3 ≡ length a + 3 = omega arith in
+    same-rect r v _ _ _ _ (sym e)
+    (rw e₀ (getD-append-add a (fourOf r ++ t) 0 0))
+    (rw e₁ (getD-append-add a (fourOf r ++ t) 1 0))
+    (rw e₂ (getD-append-add a (fourOf r ++ t) 2 0))
+    (rw e₃ (getD-append-add a (fourOf r ++ t) 3 0))
+
+rects-back : (rs : List Rect) (a t : List ℕ) (v : ℕ) → length a ≡ 4 * v → ((i : ℕ) → i < length rs → getD rs i nowhere .vertex ≡ v + i)
+    → rectsIn (length rs) v (a ++ (flat rs ++ t)) ≡ rs
+unfolding rectsIn flat
+rects-back [] a t v l o = refl
+rects-back (r ∷ rs) a t v l o =
+    let here : rectAt (a ++ (fourOf r ++ (flat rs ++ t))) v ≡ r = first-back r a (flat rs ++ t) v l (o 0 (omega arith) ∙ omega arith) in
+    let move : a ++ (fourOf r ++ (flat rs ++ t)) ≡ (a ++ fourOf r) ++ (flat rs ++ t) = sym (append-assoc a (fourOf r) (flat rs ++ t)) in
+    let m : length (a ++ fourOf r) ≡ 4 * suc v = omega (arith, length-append a (fourOf r)) in
+    let later : rectsIn (length rs) (suc v) ((a ++ fourOf r) ++ (flat rs ++ t)) ≡ rs
+    = rects-back rs (a ++ fourOf r) t (suc v) m (λ i h. o (suc i) (omega arith) ∙ omega arith) in
+    ap (λ (x : Rect). x ∷ rectsIn (length rs) (suc v) (a ++ (fourOf r ++ (flat rs ++ t)))) here
+    ∙ ap (λ (x : List ℕ). r ∷ rectsIn (length rs) (suc v) x) move
+    ∙ ap (λ (x : List Rect). r ∷ x) later
+
+length-flat : (rs : List Rect) → length (flat rs) ≡ 4 * length rs
+unfolding flat
+length-flat [] = refl
+length-flat (r ∷ rs) = omega (arith, length-flat rs)
+
+of-vertex : (p : Plan) (v : ℕ) → rectOf p v .vertex ≡ getD (p .rects) v nowhere .vertex
+unfolding rectOf
+of-vertex p v = refl
+
+-- a plan with a rectangle for each vertex, in vertex order, and for no more than 64
+pub held-back : (j : Job) (p : Plan) → Complete j p → length j ≤ 60 → planIn (heldPlan p) ≡ p
+unfolding planIn heldPlan
+held-back j p c h =
+    let n : length (p .rects) - 4 + 4 ≡ length (p .rects) = omega (arith, c .count) in
+    let k : 0 + length (flat (p .rects)) ≤ length noughts = omega (arith, length-flat (p .rects), c .count, length-replicate {A = ℕ} 256 0) in
+    let s : rectsIn (length (p .rects)) 0 (sets noughts 0 (flat (p .rects))) ≡ p .rects
+    = rw (sets-eq (flat (p .rects)) noughts 0 k) (rects-back (p .rects) [] (drop (0 + length (flat (p .rects))) noughts) 0 refl vertex) in
+    rw (n, s)
+  where
+    vertex : (i : ℕ) → i < length (p .rects) → getD (p .rects) i nowhere .vertex ≡ 0 + i
+    vertex i l = sym (of-vertex p i) ∙ c .vertex i (omega (arith, c .count)) ∙ omega arith
+
+-- ---- the plan by the numbers of walls is the plan by wall numbers
+
+map-same : (f g : ℕ → Rect) (u n : ℕ) → ((v : ℕ) → v < u + n → f v ≡ g v) → map f (upFrom u n) ≡ map g (upFrom u n)
+unfolding upFrom
+map-same f g u zero h = refl
+map-same f g u (suc n) h = rw (h u (omega arith), map-same f g (suc u) n (λ v l. h v (omega arith)))
+
+module _ (j : Job) (w : Walls) (f g : ℕ → ℕ) (r : Reads w (length j + 4) f g) where
+  room-same : (v : ℕ) → v < 4 + length j → walled w v ≡ roomRect f g v
+  unfolding walled roomRect
+  room-same v h =
+      let e = r .sides v (omega arith) in
+      let e₁ : getD (w .uprights .0) (low v) 0 ≡ f (low v) = ap (λ (s : Sides). s .left .0) e in
+      let e₂ : getD (w .uprights .0) (high v) 0 ≡ f (high v) = ap (λ (s : Sides). s .right .0) e in
+      let e₃ : getD (w .levels .0) (low v) 0 ≡ g (low v) = ap (λ (s : Sides). s .lower .0) e in
+      let e₄ : getD (w .levels .0) (high v) 0 ≡ g (high v) = ap (λ (s : Sides). s .upper .0) e in
+      rw (e₁, e₂, e₃, e₄)
+
+  pub plan-same : planOn w (sheetOf w) (length j) ≡ planOf j f g
+  unfolding planOn planOf frame rooms
+  plan-same =
+      let e₁ : getD (w .uprights .0) (low 3) 0 + 1 ≡ f (low 3) + 1 = ap (λ (s : Sheet). s .width) (r .sheet) in
+      let e₂ : getD (w .levels .0) (low 0) 0 + 1 ≡ g (low 0) + 1 = ap (λ (s : Sheet). s .height) (r .sheet) in
+      rw (e₁, e₂, map-same (walled w) (roomRect f g) 4 (length j) room-same)
+
+-- ---- the answers
+
+refuses : (r : Drawing) (j : Job) (x : Answer) (k : ℕ) → x ≡ refused k → (r .answer ≡ Refused k) × (r .plan ≡ noPlan) → Draws r j x
+unfolding said kept
+refuses r j x k e p = record { says = rw (p .0, e); keeps = rw e (p .1) }
+
+not-some : {f : List ℕ} → some f ≡ none → ⊥
+not-some e = let z : _≡_ {A = ℕ} 0 1 = cc in omega arith
+
+planned-none : (j : Job) (a b : Option (List ℕ)) → (a ≡ none) ⊎ (b ≡ none) → planned j a b ≡ refused 7
+unfolding planned
+planned-none j none none h = refl
+planned-none j none (some g) h = refl
+planned-none j (some f) none h = refl
+planned-none j (some f) (some g) (inl e) = absurd (not-some e)
+planned-none j (some f) (some g) (inr e) = absurd (not-some e)
+
+module _ (j : Job) (w : Walls) (ew : w ≡ wallsOf j) where
+  -- 7: the walls run in a circle
+  pub seven-drawn : (r : Drawing) → w .answer ≡ Circle → (r .answer ≡ Refused 7) × (r .plan ≡ noPlan) → Draws r j (drawnAny j)
+  unfolding drawnAny
+  seven-drawn r c p =
+      refuses r j (drawnAny j) 7 (planned-none j (numbersIn upright j) (numbersIn level j) (circled j (ap (λ (x : Walls). x .answer) (sym ew) ∙ c))) p
+
+  module _ (num : w .answer ≡ Numbered) where
+    c : Counted j (wallsOf j)
+    c = counted j (ap (λ (x : Walls). x .answer) (sym ew) ∙ num)
+
+    -- the plan by wall numbers
+    abbrev p : Plan
+    p = planOf j (at (c .xs)) (at (c .ys))
+
+    drawn-tested : drawnAny j ≡ tested j p
+    unfolding drawnAny planned
+    drawn-tested = rw (c .is-upright, c .is-level)
+
+    few-rooms : length j ≤ 60
+    unfolding test2
+    few-rooms = leb-true (length j) 60 (and-right (leb 1 (length j)) (leb (length j) 60) (c .rooms))
+
+    module _ (s : Sheet) (es : s ≡ sheetOf w) (fits : Bool) (ef : fits ≡ (leb (s .width) 64 && leb (s .height) 64)) where
+      fits-eight : fits ≡ test8 p
+      fits-eight =
+          ef
+          ∙ ap (λ (q : Sheet). leb (q .width) 64 && leb (q .height) 64) (es ∙ ap (λ (x : Walls). sheetOf x) ew)
+          ∙ sym (sheet-fits-test8 j (at (c .xs)) (at (c .ys)) (wallsOf j) (length j + 4) (c .reads))
+
+      -- 8: the sheet is too wide or too high
+      pub eight-drawn : (r : Drawing) → not fits ≡ true → (r .answer ≡ Refused 8) × (r .plan ≡ noPlan) → Draws r j (drawnAny j)
+      unfolding tested
+      eight-drawn r t q = refuses r j (drawnAny j) 8 (drawn-tested ∙ past-false (test8 p) 8 _ (sym fits-eight ∙ not-true fits t)) q
+
+      module _ (t : not fits ≡ false) where
+        -- what placing the rooms asks
+        pub placed-asks : (n : ℕ) → n ≡ length j
+            → (s .width ≤ 64) × (1 ≤ s .width) × (s .height ≤ 64) × (1 ≤ s .height) × (n ≤ 60)
+        placed-asks n en =
+            let b : (leb (s .width) 64 && leb (s .height) 64) ≡ true = sym ef ∙ not-false fits t in
+            let x : s .width ≡ sheetOf w .width = ap (λ (q : Sheet). q .width) es in
+            let y : s .height ≡ sheetOf w .height = ap (λ (q : Sheet). q .height) es in (
+              leb-true (s .width) 64 (and-left (leb (s .width) 64) (leb (s .height) 64) b),
+              omega (arith, x),
+              leb-true (s .height) 64 (and-right (leb (s .width) 64) (leb (s .height) 64) b),
+              omega (arith, y),
+              omega (arith, few-rooms),
+            )
+
+        module _ (h : HeldPlan) (n : ℕ) (en : n ≡ length j) (eh : h ≡ heldPlan (planOn w s n)) where
+          held-is : h ≡ heldPlan p
+          held-is =
+              eh
+              ∙ ap heldPlan (ap (λ (m : ℕ). planOn w s m) en
+              ∙ ap (λ (q : Sheet). planOn w q (length j)) es
+              ∙ ap (λ (x : Walls). planOn x (sheetOf x) (length j)) ew
+              ∙ plan-same j (wallsOf j) (at (c .xs)) (at (c .ys)) (c .reads))
+
+          back : planIn h ≡ p
+          back = ap planIn held-is ∙ held-back j p (plan-complete j (at (c .xs)) (at (c .ys))) few-rooms
+
+          module _ (b : Bool) (eb : b ≡ drawable j (planIn h)) where
+            draws : b ≡ drawable j p
+            draws = eb ∙ ap (drawable j) back
+
+            -- 9: the drawing test fails
+            pub nine-drawn : (r : Drawing) → not b ≡ true → (r .answer ≡ Refused 9) × (r .plan ≡ noPlan) → Draws r j (drawnAny j)
+            unfolding tested
+            nine-drawn r f q = refuses r j (drawnAny j) 9
+                (drawn-tested ∙ past-true (test8 p) 8 _ (sym fits-eight ∙ not-false fits t) ∙ past-false (drawable j p) 9 _ (sym draws ∙ not-true b f)) q
+
+            -- the plan is held
+            pub all-drawn : not b ≡ false → Draws (record { answer = Drawn; plan = h }) j (drawnAny j)
+            unfolding tested said kept
+            all-drawn f =
+                let e : drawnAny j ≡ held j p
+                = drawn-tested ∙ past-true (test8 p) 8 _ (sym fits-eight ∙ not-false fits t) ∙ past-true (drawable j p) 9 _ (sym draws ∙ not-false b f) in
+                record { says = rw (e, back); keeps = rw e held-is }
+
+-- the held stars are as many as the job has
+pub stars-many : (s : Stars) → s .count ≡ length (jobOf s)
+unfolding jobOf
+stars-many s = sym (length-stars (s .count) 0 (s .ends) (s .nbr) (s .kind))

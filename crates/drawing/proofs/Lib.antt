@@ -1,0 +1,6 @@
+mod Two
+mod Asking
+mod Placing
+mod Judging
+mod Writing
+pub mod Corollaries

@@ -1,0 +1,194 @@
+-- One rectangle and two, as the code comes by them. Assumes nothing.
+use Prim.Native.Nat.{ℕ, zero, suc, _+_, _-_, _*_, _%_, _<_, _≤_, max, min}
+use mathlib.Core.Path.{_≡_, refl, sym, _∙_}
+use mathlib.Core.Bool.{Bool, true, false, not, _&&_, _||_}
+use native.Mathlib.Nat.{mul-le-mul, lt-of-le-of-lt}
+use native.Mathlib.Omega.{arith}
+use borrow.Author.Tests.{lt-ltb, le-ltb, le-leb, lt-leb, eq-eqb, ne-eqb, eqb-true}
+use lib.Dec.{leb, ltb, eqb, lit<}
+use mir.Syntax.{w64}
+use mir.Val.{Fits}
+use Rattle.floor.specs.Jobs.{Job, starOf, names}
+use Rattle.floor.specs.Plans.{overlap, abut, apart, share, corner, area, nextSide, joined, sharesJoined, follows}
+use Rattle.drawing.specs.declared.Rect.{Rect as HeldRect}
+use Rattle.drawing.specs.declared.Item.{Item}
+use Rattle.drawing.specs.declared.Item.the-variants.{Apart, Joined, NoCorner}
+use Rattle.drawing.specs.Rects.{rectIn}
+use Rattle.drawing.specs.Tests.{insideSheet, pairOk}
+
+-- two stretches
+module _ (a b c d : ℕ) where
+  pub reach : (x y n : ℕ) → x ≡ max a c → y ≡ min b d → n ≡ y - x → n ≡ overlap a b c d
+  unfolding overlap
+  reach x y n ex ey e = rw (← ex, ← ey) e
+
+  pub abut-first : b ≡ c → true ≡ abut a b c d
+  unfolding abut
+  abut-first e = rw (eq-eqb b c e)
+
+  pub abut-second : (b ≡ c → ⊥) → eqb d a ≡ abut a b c d
+  unfolding abut
+  abut-second e = rw (ne-eqb b c e)
+
+  -- stretches that touch end to end reach over one another by nothing
+  abut-reach : abut a b c d ≡ true → overlap a b c d ≡ 0
+  unfolding overlap abut
+  abut-reach h = go (eqb b c) refl (eqb d a) refl h
+    where
+      go : (p : Bool) → eqb b c ≡ p → (q : Bool) → eqb d a ≡ q → (p || q) ≡ true → min b d - max a c ≡ 0
+      go true e q f t = let g : b ≡ c = eqb-true b c e in omega arith
+      go false e true f t = let g : d ≡ a = eqb-true d a f in omega arith
+      go false e false f t = let z : _≡_ {A = ℕ} 0 1 = cc in absurd (omega arith)
+
+-- a product of two numbers of two bytes
+module _ (m n : ℕ) (h : m < 65536) (k : n < 65536) where
+  pub product : m * n < 4294967296
+  product = lt-of-le-of-lt (mul-le-mul {n₂ = 65535} {m₂ = 65535} (omega arith) (omega arith)) (lit< tt)
+
+  pub product-fits : Fits w64 (m * n)
+  product-fits = omega (arith, product)
+
+-- a wall that nothing reaches over adds nothing
+or-nothing : (a b : Bool) → a ≡ (a || (b && false))
+or-nothing true b = refl
+or-nothing false true = refl
+or-nothing false false = refl
+
+-- two rectangles
+module _ (r s : HeldRect) where
+  -- how far they reach over one another across and upward, and whether they touch there
+  abbrev across : ℕ
+  across = overlap (r .x1) (r .x2) (s .x1) (s .x2)
+
+  abbrev upward : ℕ
+  upward = overlap (r .y1) (r .y2) (s .y1) (s .y2)
+
+  abbrev beside : Bool
+  beside = abut (r .x1) (r .x2) (s .x1) (s .x2)
+
+  abbrev above : Bool
+  above = abut (r .y1) (r .y2) (s .y1) (s .y2)
+
+  pub apart-across : (n : ℕ) → n ≡ across → n ≡ 0 → true ≡ apart (rectIn r) (rectIn s)
+  unfolding apart rectIn
+  apart-across n e z = rw (← e, eq-eqb n 0 z)
+
+  pub apart-upward : (n m : ℕ) → n ≡ across → (n ≡ 0 → ⊥) → m ≡ upward → eqb m 0 ≡ apart (rectIn r) (rectIn s)
+  unfolding apart rectIn
+  apart-upward n m e z f = rw (← e, ← f, ne-eqb n 0 z)
+
+  pub share-beside : (b : Bool) (n : ℕ) → b ≡ beside → b ≡ true → n ≡ upward → leb 1 n ≡ share (rectIn r) (rectIn s)
+  unfolding share rectIn
+  share-beside b n e t f =
+      let g : beside ≡ true = sym e ∙ t in
+      rw (g, abut-reach (r .x1) (r .x2) (s .x1) (s .x2) g, ← f) (or-nothing (leb 1 n) above)
+
+  pub share-above : (b t : Bool) (n : ℕ) → b ≡ beside → b ≡ false → t ≡ above → t ≡ true → n ≡ across → leb 1 n ≡ share (rectIn r) (rectIn s)
+  unfolding share rectIn
+  share-above b t n e z f y g = rw (← e, ← f, z, y, ← g)
+
+  pub share-no : (b t : Bool) → b ≡ beside → b ≡ false → t ≡ above → t ≡ false → false ≡ share (rectIn r) (rectIn s)
+  unfolding share rectIn
+  share-no b t e z f y = rw (← e, ← f, z, y)
+
+  pub corner-beside : (b t : Bool) → b ≡ beside → b ≡ true → t ≡ above → t ≡ corner (rectIn r) (rectIn s)
+  unfolding corner rectIn
+  corner-beside b t e y f = rw (← e, ← f, y)
+
+  pub corner-no : (b : Bool) → b ≡ beside → b ≡ false → false ≡ corner (rectIn r) (rectIn s)
+  unfolding corner rectIn
+  corner-no b e z = rw (← e, z)
+
+  -- which comes next, by the kind
+  pub follows-0 : (k : ℕ) → k ≡ 0 → ltb (s .x1) (r .x1) ≡ follows k (rectIn r) (rectIn s)
+  unfolding follows rectIn
+  follows-0 k e = rw e
+
+  pub follows-1 : (k : ℕ) → k ≡ 1 → ltb (s .y1) (r .y1) ≡ follows k (rectIn r) (rectIn s)
+  unfolding follows rectIn
+  follows-1 k e = rw e
+
+  pub follows-2 : (k : ℕ) → k ≡ 2 → ltb (r .x1) (s .x1) ≡ follows k (rectIn r) (rectIn s)
+  unfolding follows rectIn
+  follows-2 k e = rw e
+
+  pub follows-other : (k : ℕ) → (k ≡ 0 → ⊥) → (k ≡ 1 → ⊥) → (k ≡ 2 → ⊥) → ltb (r .y1) (s .y1) ≡ follows k (rectIn r) (rectIn s)
+  unfolding follows rectIn
+  follows-other zero a b c = absurd (a refl)
+  follows-other (suc zero) a b c = absurd (b refl)
+  follows-other (suc (suc zero)) a b c = absurd (c refl)
+  follows-other (suc (suc (suc k))) a b c = refl
+
+-- one rectangle
+module _ (r : HeldRect) where
+  pub area-of : (x y m n : ℕ) → m ≡ x → x ≡ r .x2 - r .x1 → n ≡ y → y ≡ r .y2 - r .y1 → m * n ≡ area (rectIn r)
+  unfolding area rectIn
+  area-of x y m n em ex en ey = rw (em, ex, en, ey)
+
+  module _ (w h : ℕ) where
+    pub inside-thin : r .x2 ≤ r .x1 → false ≡ insideSheet w h (rectIn r)
+    unfolding insideSheet rectIn
+    inside-thin a = rw (le-ltb (r .x1) (r .x2) a)
+
+    pub inside-low : r .x1 < r .x2 → r .y2 ≤ r .y1 → false ≡ insideSheet w h (rectIn r)
+    unfolding insideSheet rectIn
+    inside-low a b = rw (lt-ltb (r .x1) (r .x2) a, le-ltb (r .y1) (r .y2) b)
+
+    pub inside-wide : r .x1 < r .x2 → r .y1 < r .y2 → w < r .x2 → false ≡ insideSheet w h (rectIn r)
+    unfolding insideSheet rectIn
+    inside-wide a b c = rw (lt-ltb (r .x1) (r .x2) a, lt-ltb (r .y1) (r .y2) b, lt-leb (r .x2) w c)
+
+    pub inside-high : r .x1 < r .x2 → r .y1 < r .y2 → r .x2 ≤ w → leb (r .y2) h ≡ insideSheet w h (rectIn r)
+    unfolding insideSheet rectIn
+    inside-high a b c = rw (lt-ltb (r .x1) (r .x2) a, lt-ltb (r .y1) (r .y2) b, le-leb (r .x2) w c)
+
+-- two vertices
+module _ (u v : ℕ) where
+  pub side-none : 4 ≤ u → false ≡ nextSide u v
+  unfolding nextSide
+  side-none h = rw (le-ltb u 4 h)
+
+  pub side-next : u < 4 → eqb v ((u + 1) % 4) ≡ nextSide u v
+  unfolding nextSide
+  side-next h = rw (lt-ltb u 4 h)
+
+  module _ (j : Job) (a : Bool) (ea : a ≡ names (starOf j u) v) where
+    pub joined-names : a ≡ true → true ≡ joined j u v
+    unfolding joined
+    joined-names t = rw (← ea, t)
+
+    pub joined-named : (b : Bool) → a ≡ false → b ≡ names (starOf j v) u → b ≡ true → true ≡ joined j u v
+    unfolding joined
+    joined-named b z eb t = rw (← ea, z, ← eb, t)
+
+    pub joined-next : (b c : Bool) → a ≡ false → b ≡ names (starOf j v) u → b ≡ false → c ≡ nextSide u v → c ≡ true → true ≡ joined j u v
+    unfolding joined
+    joined-next b c z eb y ec t = rw (← ea, z, ← eb, y, ← ec, t)
+
+    pub joined-last : (b c d : Bool) → a ≡ false → b ≡ names (starOf j v) u → b ≡ false → c ≡ nextSide u v → c ≡ false → d ≡ nextSide v u → d ≡ joined j u v
+    unfolding joined
+    joined-last b c d z eb y ec x ed = rw (← ea, z, ← eb, y, ← ec, x) ed
+
+-- what is asked of two
+module _ (j : Job) (r s : HeldRect) (b : Bool) where
+  pub joined-free : b ≡ share (rectIn r) (rectIn s) → not b ≡ true → true ≡ sharesJoined j (rectIn r) (rectIn s)
+  unfolding sharesJoined
+  joined-free e t = rw (← e, t)
+
+  pub joined-asked : (w : Bool) → b ≡ share (rectIn r) (rectIn s) → not b ≡ false → w ≡ joined j (r .vertex) (s .vertex)
+      → w ≡ sharesJoined j (rectIn r) (rectIn s)
+  unfolding sharesJoined rectIn
+  joined-asked w e t f = rw (← e, t) f
+
+  module _ (what : Item) where
+    pub ok-apart : what ≡ Apart → b ≡ apart (rectIn r) (rectIn s) → b ≡ pairOk what j (rectIn r) (rectIn s)
+    unfolding pairOk
+    ok-apart e f = rw e f
+
+    pub ok-joined : what ≡ Joined → b ≡ sharesJoined j (rectIn r) (rectIn s) → b ≡ pairOk what j (rectIn r) (rectIn s)
+    unfolding pairOk
+    ok-joined e f = rw e f
+
+    pub ok-corner : what ≡ NoCorner → b ≡ corner (rectIn r) (rectIn s) → not b ≡ pairOk what j (rectIn r) (rectIn s)
+    unfolding pairOk
+    ok-corner e f = rw (e, f)

@@ -1,0 +1,53 @@
+-- What numbering and drawing any stars answers. Assumes nothing.
+use Prim.Native.Nat.{ℕ, _-_}
+use mathlib.Core.Path.{_≡_}
+use mathlib.Core.List.{List, [], _∷_, _++_, map}
+use lib.ListN.{getD}
+use Rattle.floor.specs.Lists.{upFrom}
+use Rattle.floor.specs.Jobs.{Job}
+use Rattle.floor.specs.Walls.{upright, level}
+use Rattle.floor.specs.Plans.{Rect, Plan, roomRect, Answer, refused, held, planned}
+use Rattle.walls.specs.declared.Walls.{Walls}
+use Rattle.walls.specs.declared.Sheet.{Sheet}
+use Rattle.walls.specs.Numbers.{numbersIn}
+use Rattle.drawing.specs.declared.Answer.{Answer as Said}
+use Rattle.drawing.specs.declared.Answer.the-variants.{Drawn, Refused}
+use Rattle.drawing.specs.declared.Plan.{Plan as HeldPlan}
+use Rattle.drawing.specs.declared.Drawing.{Drawing}
+use Rattle.drawing.specs.Rects.{planIn, noPlan, heldPlan}
+
+-- TESTS 7 TO 9 OF ANY JOB, with the numbers that the walls promise of any job
+unfoldable pub drawnAny : Job → Answer
+drawnAny j = planned j (numbersIn upright j) (numbersIn level j)
+
+-- the rectangle of vertex v by the numbers of the walls on its sides
+unfoldable pub walled : Walls → ℕ → Rect
+walled w v = roomRect (λ s. getD (w .uprights .0) s 0) (λ s. getD (w .levels .0) s 0) v
+
+-- the sides of the frame on a sheet so wide and so high: N, W, S and E, one cell thick
+unfoldable pub frame : ℕ → ℕ → List Rect
+frame w h =
+    record { vertex = 0; x1 = 1; y1 = h - 1; x2 = w - 1; y2 = h }
+    ∷ record { vertex = 1; x1 = 0; y1 = 0; x2 = 1; y2 = h }
+    ∷ record { vertex = 2; x1 = 1; y1 = 0; x2 = w - 1; y2 = 1 }
+    ∷ record { vertex = 3; x1 = w - 1; y1 = 0; x2 = w; y2 = h }
+    ∷ []
+
+-- the plan of n rooms by the numbers of walls, on a sheet
+unfoldable pub planOn : Walls → Sheet → ℕ → Plan
+planOn w s n = record { width = s .width; height = s .height; rects = frame (s .width) (s .height) ++ map (walled w) (upFrom 4 n) }
+
+-- what an answer says, beside the job and the plan: these, held, or the number of the test that fails
+unfoldable pub said : Said → Job → Plan → Answer
+said Drawn j p = held j p
+said (Refused k) j p = refused k
+
+-- the plan that is kept of it: none where it is refused
+unfoldable pub kept : Answer → HeldPlan
+kept (refused k) = noPlan
+kept (held j p) = heldPlan p
+
+-- a drawing tells what drawing the job came to, and keeps the plan of it
+pub record Draws (r : Drawing) (j : Job) (x : Answer) : Type 0 where
+  pub says : said (r .answer) j (planIn (r .plan)) ≡ x
+  pub keeps : r .plan ≡ kept x

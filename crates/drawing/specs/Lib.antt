@@ -1,0 +1,3 @@
+pub mod Rects
+pub mod Tests
+pub mod Drawn

@@ -1,0 +1,131 @@
+// What the drawing test asks of any two rectangles.
+ghost use mathlib.Core.Path.{_≡_};
+ghost use Prim.Native.Nat.{_-_, _<_};
+ghost use Rattle.floor.specs.Lists.{all, pairwise};
+ghost use Rattle.floor.specs.Plans.{nextSide, joined, sharesJoined};
+ghost use Rattle.stars.specs.Held.{starsIn};
+ghost use Rattle.drawing.specs.Rects.{rectIn, rectsIn};
+ghost use Rattle.drawing.specs.Tests.{pairOk};
+use crate::Item;
+use crate::Rect;
+
+// Whether v is the next side of the frame after u, counterclockwise.
+fn next_side(u: usize, v: usize) -> bool
+    ensures { λ r. ⌜ r ≡ nextSide u v ⌝ }
+{
+    if 4 <= u {
+        return false;
+    }
+    v == (u + 1) % 4
+}
+
+// Whether the job joins two vertices, or they are neighbouring sides of the frame.
+fn joined<'a>(
+    ends: &'a [u16],
+    nbr: &'a [u16],
+    kind: &'a [u8],
+    count: usize,
+    u: usize,
+    v: usize,
+) -> bool
+    ensures { λ r. ⌜ r ≡ joined (starsIn count 0 (now (ends .entry)) (now (nbr .entry)) (now (kind .entry))) u v ⌝ }
+{
+    if stars::held::star_names(ends, nbr, kind, count, u, v) {
+        return true;
+    }
+    if stars::held::star_names(ends, nbr, kind, count, v, u) {
+        return true;
+    }
+    if next_side(u, v) {
+        return true;
+    }
+    next_side(v, u)
+}
+
+// Whether two that share a wall are joined.
+fn shares_joined<'a>(
+    ends: &'a [u16],
+    nbr: &'a [u16],
+    kind: &'a [u8],
+    count: usize,
+    r: Rect,
+    s: Rect,
+) -> bool
+    ensures { λ b. ⌜ b ≡ sharesJoined (starsIn count 0 (now (ends .entry)) (now (nbr .entry)) (now (kind .entry))) (rectIn r) (rectIn s) ⌝ }
+{
+    if !crate::rects::share(r, s) {
+        return true;
+    }
+    joined(ends, nbr, kind, count, r.vertex, s.vertex)
+}
+
+// Whether two rectangles pass an item.
+fn pair_ok<'a>(
+    what: Item,
+    ends: &'a [u16],
+    nbr: &'a [u16],
+    kind: &'a [u8],
+    count: usize,
+    r: Rect,
+    s: Rect,
+) -> bool
+    ensures { λ b. ⌜ b ≡ pairOk what (starsIn count 0 (now (ends .entry)) (now (nbr .entry)) (now (kind .entry))) (rectIn r) (rectIn s) ⌝ }
+{
+    match what {
+        Item::Apart => crate::rects::apart(r, s),
+        Item::Joined => shares_joined(ends, nbr, kind, count, r, s),
+        Item::NoCorner => !crate::rects::corner(r, s),
+    }
+}
+
+// Whether a rectangle passes an item with every one from a vertex on.
+fn later_ok<'a>(
+    what: Item,
+    ends: &'a [u16],
+    nbr: &'a [u16],
+    kind: &'a [u8],
+    count: usize,
+    rects: &'a [u16],
+    many: usize,
+    first: usize,
+    r: Rect,
+) -> bool
+    requires { ⌜ many < 65536 ⌝ }
+    ensures { λ b. ⌜ b ≡ all (pairOk what (starsIn count 0 (now (ends .entry)) (now (nbr .entry)) (now (kind .entry))) (rectIn r))
+        (rectsIn (many - first) first (now (rects .entry))) ⌝ }
+{
+    let mut v = first;
+    while v < many {
+        let s = crate::held::rect_at(rects, v);
+        if !pair_ok(what, ends, nbr, kind, count, r, s) {
+            return false;
+        }
+        v += 1;
+    }
+    true
+}
+
+// Whether any two of so many rectangles pass an item.
+pub fn all_pairs<'a>(
+    what: Item,
+    ends: &'a [u16],
+    nbr: &'a [u16],
+    kind: &'a [u8],
+    count: usize,
+    rects: &'a [u16],
+    many: usize,
+) -> bool
+    requires { ⌜ many < 65536 ⌝ }
+    ensures { λ b. ⌜ b ≡ pairwise (pairOk what (starsIn count 0 (now (ends .entry)) (now (nbr .entry)) (now (kind .entry))))
+        (rectsIn many 0 (now (rects .entry))) ⌝ }
+{
+    let mut v: usize = 0;
+    while v < many {
+        let r = crate::held::rect_at(rects, v);
+        if !later_ok(what, ends, nbr, kind, count, rects, many, v + 1, r) {
+            return false;
+        }
+        v += 1;
+    }
+    true
+}

@@ -1,0 +1,120 @@
+// One rectangle, and two: whether they share a cell, share a wall, or meet only at a corner.
+ghost use mathlib.Core.Path.{_≡_};
+ghost use Prim.Native.Nat.{_-_, _<_, max, min};
+ghost use Rattle.floor.specs.Plans.{overlap, abut, apart, area, share, corner, follows};
+ghost use Rattle.drawing.specs.Rects.{rectIn};
+ghost use Rattle.drawing.specs.Tests.{insideSheet};
+use crate::Rect;
+
+// The larger of two numbers.
+fn larger(a: u16, b: u16) -> u16
+    ensures { λ r. ⌜ r ≡ max a b ⌝ }
+{
+    if a < b { b } else { a }
+}
+
+// The smaller of two numbers.
+fn smaller(a: u16, b: u16) -> u16
+    ensures { λ r. ⌜ r ≡ min a b ⌝ }
+{
+    if a < b { a } else { b }
+}
+
+// How far b lies beyond a; 0 where it does not.
+fn beyond(a: u16, b: u16) -> u16
+    ensures { λ r. ⌜ r ≡ b - a ⌝ }
+{
+    if b < a {
+        return 0;
+    }
+    b - a
+}
+
+// How far the stretches from a to b and from c to d reach over one another.
+fn overlap(a: u16, b: u16, c: u16, d: u16) -> u16
+    ensures { λ r. ⌜ r ≡ overlap a b c d ⌝ }
+{
+    beyond(larger(a, c), smaller(b, d))
+}
+
+// Whether the stretches touch end to end.
+fn abut(a: u16, b: u16, c: u16, d: u16) -> bool
+    ensures { λ r. ⌜ r ≡ abut a b c d ⌝ }
+{
+    if b == c {
+        return true;
+    }
+    d == a
+}
+
+// Whether two rectangles share no cell.
+pub fn apart(r: Rect, s: Rect) -> bool
+    ensures { λ b. ⌜ b ≡ apart (rectIn r) (rectIn s) ⌝ }
+{
+    if overlap(r.x1, r.x2, s.x1, s.x2) == 0 {
+        return true;
+    }
+    overlap(r.y1, r.y2, s.y1, s.y2) == 0
+}
+
+// Whether two rectangles share a wall length of at least 1. Stretches that touch end to end reach over one another by nothing.
+pub fn share(r: Rect, s: Rect) -> bool
+    ensures { λ b. ⌜ b ≡ share (rectIn r) (rectIn s) ⌝ }
+{
+    if abut(r.x1, r.x2, s.x1, s.x2) {
+        return 1 <= overlap(r.y1, r.y2, s.y1, s.y2);
+    }
+    if abut(r.y1, r.y2, s.y1, s.y2) {
+        return 1 <= overlap(r.x1, r.x2, s.x1, s.x2);
+    }
+    false
+}
+
+// Whether two rectangles meet only at a corner point.
+pub fn corner(r: Rect, s: Rect) -> bool
+    ensures { λ b. ⌜ b ≡ corner (rectIn r) (rectIn s) ⌝ }
+{
+    if abut(r.x1, r.x2, s.x1, s.x2) {
+        return abut(r.y1, r.y2, s.y1, s.y2);
+    }
+    false
+}
+
+// How many cells a rectangle has.
+pub fn area(r: Rect) -> usize
+    ensures { λ n. ⌜ (n ≡ area (rectIn r)) × (n < 4294967296) ⌝ }
+{
+    fields::number(beyond(r.x1, r.x2)) * fields::number(beyond(r.y1, r.y2))
+}
+
+// Whether a rectangle has at least a cell and lies inside a sheet so wide and so high.
+pub fn inside(width: u16, height: u16, r: Rect) -> bool
+    ensures { λ b. ⌜ b ≡ insideSheet width height (rectIn r) ⌝ }
+{
+    if r.x2 <= r.x1 {
+        return false;
+    }
+    if r.y2 <= r.y1 {
+        return false;
+    }
+    if width < r.x2 {
+        return false;
+    }
+    r.y2 <= height
+}
+
+// Whether, after r, s comes next among the neighbours of a kind.
+pub fn follows(kind: u8, r: Rect, s: Rect) -> bool
+    ensures { λ b. ⌜ b ≡ follows kind (rectIn r) (rectIn s) ⌝ }
+{
+    if kind == 0 {
+        return s.x1 < r.x1;
+    }
+    if kind == 1 {
+        return s.y1 < r.y1;
+    }
+    if kind == 2 {
+        return r.x1 < s.x1;
+    }
+    r.y1 < s.y1
+}
