@@ -1,0 +1,5 @@
+mod Contacts
+mod Shifts
+mod Rewriting
+mod Turning
+pub mod Corollaries
