@@ -1,0 +1,120 @@
+-- ANY CALLS AT ALL: what holds of every board that the public calls reach. Assumes nothing.
+use Prim.Native.Nat.{ℕ}
+use mathlib.Core.Path.{_≡_, refl, sym, ap, _∙_}
+use mathlib.Core.List.{List, [], _∷_, _++_}
+use native.Mathlib.Omega.{arith}
+use lib.ListN.{take}
+use Rattle.floor.specs.Jobs.{Job, writeJob}
+use Rattle.floor.specs.Jobs.Written.{read-write-job}
+use Rattle.floor.specs.Plans.{Plan, Answer, held}
+use Rattle.floor.specs.Floor.{Floor}
+use Rattle.floor.specs.Calls.{load, Board, empty, holding, Call, loads, turns, writesJob, Reply, refusal, done, wrote, lent, Step, refuse, after, step, run}
+use Rattle.floor.specs.Calls.Sound.{Sound, load-reads}
+use Rattle.floor.specs.Calls.Effects.{refused-leaves, wrote-job, Restored, turn-turn}
+use Rattle.board.specs.declared.Board.{Board as HeldBoard}
+use Rattle.board.specs.declared.Reply.{Reply as Said}
+use Rattle.board.specs.declared.Reply.the-variants.{Refused, Done, Wrote}
+use Rattle.board.specs.declared.Step.{Step as Handed}
+use Rattle.board.specs.Boards.{boardFor, boardOf, replyOf, handed, Tells}
+use Rattle.board.specs.Reach.{Reached, at-first, called}
+use Rattle.board.proofs.Corollaries.{saying, saying-back, at-first as holds-nothing, as-load-leaves, board-sound, board-floor, tells-holds}
+
+-- calls one after the other, and one more
+run-more : (b : Board) (cs : List Call) (c : Call) → run b (cs ++ (c ∷ [])) ≡ step (run b cs) c .board
+unfolding run
+run-more b [] c = refl
+run-more b (d ∷ cs) c = run-more (step b d .board) cs c
+
+-- A REACHED BOARD holds what the rules say of the calls made
+pub reached-runs : (b : HeldBoard) → Reached b → (cs : List Call) × (boardOf b ≡ run empty cs)
+unfolding run
+reached-runs b at-first = ([], holds-nothing)
+reached-runs b (called {b = a} c r buf h t) =
+    let (cs, e) = reached-runs a h in
+    (cs ++ (c ∷ []), tells-holds a c r buf t ∙ ap (λ (x : Board). step x c .board) e ∙ sym (run-more empty cs c))
+
+-- DEMAND 3: whenever a reached board holds a plan, that is a floor plan for the job that it holds
+pub reached-floor : (b : HeldBoard) → Reached b → (j : Job) (p : Plan) → boardOf b ≡ holding j p → Floor j p
+reached-floor b h j p e = board-floor b j p e
+
+-- DEMAND 1: A REFUSED CALL hands back the very board, and every byte of the lent buffer
+pub refused-call : (b : HeldBoard) (c : Call) (r : Handed) (buf : List ℕ) (k : ℕ) → Tells b r buf (step (boardOf b) c) → r .reply ≡ Refused k
+    → (r .board ≡ b) × (buf ≡ lent c)
+unfolding replyOf handed
+refused-call b c r buf k t e =
+    let s : step (boardOf b) c .reply ≡ refusal k = sym (t .reply) ∙ ap replyOf e in
+    let h : handed b (step (boardOf b) c .reply) (step (boardOf b) c .board) ≡ b = rw s in
+    (t .board ∙ h, t .buffer ∙ refused-leaves (boardOf b) c k s .same-buffer)
+
+-- a reply by what it says
+says-done : (x : Said) → replyOf x ≡ done → x ≡ Done
+says-done x e = sym (saying-back x) ∙ ap saying e
+
+-- the board of what is held is the very board
+the-board : (b : HeldBoard) (j : Job) (p : Plan) → boardOf b ≡ holding j p → boardFor j p ≡ b
+the-board b j p e = sym (as-load-leaves b j p .0 e .is-board)
+
+done-hands : (b : HeldBoard) (j : Job) (p : Plan) (x : Reply) (a : Board) → x ≡ done → a ≡ holding j p → handed b x a ≡ boardFor j p
+unfolding handed
+done-hands b j p x a e f = rw (e, f)
+
+-- DEMAND 3: AN ACCEPTED TURN MADE AGAIN AT ONCE, its rooms in either order, is accepted and gives back the very board before it
+module _ (b : HeldBoard) (u v : ℕ) (r : Handed) (x : List ℕ) (t : Tells b r x (step (boardOf b) (turns u v))) (d : r .reply ≡ Done) where
+  turn-done : step (boardOf b) (turns u v) .reply ≡ done
+  unfolding replyOf
+  turn-done = sym (t .reply) ∙ ap replyOf d
+
+  restored : (m n : ℕ) → ((j : Job) (p : Plan) → boardOf b ≡ holding j p → Restored (holding j p) (step (step (holding j p) (turns u v) .board) (turns m n)))
+      → (s : Handed) (y : List ℕ) → Tells (r .board) s y (step (boardOf (r .board)) (turns m n)) → (s .reply ≡ Done) × (s .board ≡ b)
+  restored m n back s y q = go (boardOf b) refl
+    where
+      no-turn : {X : Type 0} → step empty (turns u v) .reply ≡ done → X
+      no-turn e = let z : _≡_ {A = ℕ} 0 1 = unfold step refuse in cc in absurd (omega arith)
+
+      go : (a : Board) → boardOf b ≡ a → (s .reply ≡ Done) × (s .board ≡ b)
+      go empty e = no-turn (ap (λ (a : Board). step a (turns u v) .reply) (sym e) ∙ turn-done)
+      go (holding j p) e =
+          let h : boardOf (r .board) ≡ step (holding j p) (turns u v) .board
+          = tells-holds b (turns u v) r x t ∙ ap (λ (a : Board). step a (turns u v) .board) e in
+          let f : step (boardOf (r .board)) (turns m n) ≡ step (step (holding j p) (turns u v) .board) (turns m n) = ap (λ (a : Board). step a (turns m n)) h in
+          let w = back j p e in
+          let accepted : step (boardOf (r .board)) (turns m n) .reply ≡ done = ap (λ (z : Step). z .reply) f ∙ w .accepted in
+          let same : step (boardOf (r .board)) (turns m n) .board ≡ holding j p = ap (λ (z : Step). z .board) f ∙ w .same-board in
+          (says-done (s .reply) (q .reply ∙ accepted), q .board ∙ done-hands (r .board) j p _ _ accepted same ∙ the-board b j p e)
+
+  done-of : (j : Job) (p : Plan) → boardOf b ≡ holding j p → step (holding j p) (turns u v) .reply ≡ done
+  done-of j p e = ap (λ (a : Board). step a (turns u v) .reply) (sym e) ∙ turn-done
+
+  pub turned-again : (s : Handed) (y : List ℕ) → Tells (r .board) s y (step (boardOf (r .board)) (turns u v)) → (s .reply ≡ Done) × (s .board ≡ b)
+  turned-again = restored u v (λ j p e. turn-turn j p u v (board-sound b j p e) (done-of j p e) .0)
+
+  pub turned-back : (s : Handed) (y : List ℕ) → Tells (r .board) s y (step (boardOf (r .board)) (turns v u)) → (s .reply ≡ Done) × (s .board ≡ b)
+  turned-back = restored v u (λ j p e. turn-turn j p u v (board-sound b j p e) (done-of j p e) .1)
+
+loads-so : (a : Board) (j : Job) (p : Plan) → Sound j p → (step a (loads (writeJob j)) .reply ≡ done) × (step a (loads (writeJob j)) .board ≡ holding j p)
+unfolding step after
+loads-so a j p s =
+    let e : load (writeJob j) ≡ held j p = load-reads (writeJob j) j p (read-write-job j (s .pass2)) s in
+    (ap (λ (x : Answer). after a x .reply) e, ap (λ (x : Answer). after a x .board) e)
+
+-- DEMAND 2: WHAT IS WRITTEN OUT AND LOADED, into any board, gives the very board that it was written from
+pub written-loaded : (b : HeldBoard) (buf : List ℕ) (r : Handed) (x : List ℕ) (n : ℕ) → Tells b r x (step (boardOf b) (writesJob buf)) → r .reply ≡ Wrote n
+    → (c : HeldBoard) (s : Handed) (y : List ℕ) → Tells c s y (step (boardOf c) (loads (take n x))) → (s .reply ≡ Done) × (s .board ≡ b)
+written-loaded b buf r x n t d c s y q = go (boardOf b) refl
+  where
+    wrote-so : step (boardOf b) (writesJob buf) .reply ≡ wrote n
+    wrote-so = sym (t .reply) ∙ ap replyOf d ∙ unfold replyOf in refl
+
+    no-write : {X : Type 0} → step empty (writesJob buf) .reply ≡ wrote n → X
+    no-write e = let z : _≡_ {A = ℕ} 0 1 = unfold step refuse in cc in absurd (omega arith)
+
+    go : (a : Board) → boardOf b ≡ a → (s .reply ≡ Done) × (s .board ≡ b)
+    go empty e = no-write (ap (λ (a : Board). step a (writesJob buf) .reply) (sym e) ∙ wrote-so)
+    go (holding j p) e =
+        let w = wrote-job j p buf n (ap (λ (a : Board). step a (writesJob buf) .reply) (sym e) ∙ wrote-so) in
+        let f : take n x ≡ writeJob j = ap (take n) (t .buffer ∙ ap (λ (a : Board). step a (writesJob buf) .buffer) e) ∙ w .front in
+        let (accepted, same) = loads-so (boardOf c) j p (board-sound b j p e) in
+        let k : step (boardOf c) (loads (take n x)) ≡ step (boardOf c) (loads (writeJob j)) = ap (λ (bs : List ℕ). step (boardOf c) (loads bs)) f in (
+          says-done (s .reply) (q .reply ∙ ap (λ (z : Step). z .reply) k ∙ accepted),
+          q .board ∙ done-hands c j p _ _ (ap (λ (z : Step). z .reply) k ∙ accepted) (ap (λ (z : Step). z .board) k ∙ same) ∙ the-board b j p e,
+        )

@@ -1,0 +1,5 @@
+mod Standing
+mod Turning
+mod Answering
+pub mod Corollaries
+pub mod AnyCalls
