@@ -1,0 +1,53 @@
+-- What the listing program prints, as bytes. Assumes nothing.
+use Prim.Native.Nat.{ℕ, zero, suc, _+_, _/_, _%_}
+use mathlib.Core.Bool.{cond}
+use mathlib.Core.List.{List, [], _∷_, _++_}
+use lib.ListN.{length}
+use lib.Dec.{leb, ltb}
+use Rattle.floor.specs.Plans.{Rect, Plan, Answer, refused, held, rectBytes}
+use Rattle.floor.specs.Calls.{load}
+
+-- the digits of n, k of them at most, and then some text
+unfoldable pub digits : ℕ → ℕ → List ℕ → List ℕ
+digits zero n t = t
+digits (suc k) n t = cond (ltb n 10) ((48 + n) ∷ t) (digits k (n / 10) ((48 + n % 10) ∷ t))
+
+-- a number in decimal, with no nought in front (n + 1 digits are always enough)
+unfoldable pub decimal : ℕ → List ℕ
+decimal n = digits (suc n) n []
+
+-- numbers on one line, single spaces between
+unfoldable pub line : List ℕ → List ℕ
+line [] = 10 ∷ []
+line (n ∷ []) = decimal n ++ (10 ∷ [])
+line (n ∷ m ∷ ns) = decimal n ++ (32 ∷ line (m ∷ ns))
+
+-- `sheet `
+unfoldable pub sheetWord : List ℕ
+sheetWord = 115 ∷ 104 ∷ 101 ∷ 101 ∷ 116 ∷ 32 ∷ []
+
+-- `refused `
+unfoldable pub refusedWord : List ℕ
+refusedWord = 114 ∷ 101 ∷ 102 ∷ 117 ∷ 115 ∷ 101 ∷ 100 ∷ 32 ∷ []
+
+-- `input too long`, and the end of the line
+unfoldable pub tooLong : List ℕ
+tooLong = 105 ∷ 110 ∷ 112 ∷ 117 ∷ 116 ∷ 32 ∷ 116 ∷ 111 ∷ 111 ∷ 32 ∷ 108 ∷ 111 ∷ 110 ∷ 103 ∷ 10 ∷ []
+
+-- a line for each rectangle: vertex, x1, y1, x2, y2
+unfoldable pub rectLines : List Rect → List ℕ
+rectLines [] = []
+rectLines (r ∷ rs) = line (rectBytes r) ++ rectLines rs
+
+-- a plan: the sheet's width and height, then the rectangles
+unfoldable pub planText : Plan → List ℕ
+planText p = sheetWord ++ (line (p .width ∷ p .height ∷ []) ++ rectLines (p .rects))
+
+-- what a load answers: the plan, or the number of the refusal
+unfoldable pub answerText : Answer → List ℕ
+answerText (refused k) = refusedWord ++ line (k ∷ [])
+answerText (held j p) = planText p
+
+-- WHAT THE LISTING PROGRAM PRINTS for some input
+unfoldable pub listing : List ℕ → List ℕ
+listing bs = cond (leb (length bs) 8192) (answerText (load bs)) tooLong

@@ -1,0 +1,55 @@
+-- Whole answers as text, as the code comes by them. Assumes nothing.
+use Prim.Native.Nat.{ℕ, _+_, _≤_, _<_}
+use mathlib.Core.Path.{_≡_, sym, ap, _∙_}
+use mathlib.Core.Bool.{true, false}
+use mathlib.Core.List.{List, [], _∷_}
+use native.Mathlib.Omega.{arith}
+use borrow.Author.Tests.{le-leb, lt-leb}
+use lib.Dec.{leb}
+use lib.ListN.{length}
+use lib.Seq.{sets}
+use Rattle.floor.specs.Plans.{refused, held}
+use Rattle.floor.specs.Calls.{load}
+use Rattle.floor.specs.Texts.{line, refusedWord, tooLong, planText, answerText, listing}
+use Rattle.stars.specs.Held.{jobOf}
+use Rattle.drawing.specs.declared.Answer.the-variants.{Drawn, Refused}
+use Rattle.drawing.specs.Rects.{planIn}
+use Rattle.drawing.specs.Drawn.{said}
+use Rattle.board.specs.declared.Planned.{Planned}
+use Rattle.board.specs.Boards.{Plans}
+use Rattle.texts.proofs.Rows.{both-put, both-end}
+
+-- a refusal: the word, then its number on the same line
+module _ (o x y : List ℕ) (k n m r : ℕ) where
+  pub refusal-put : n ≡ k → x ≡ sets o 0 refusedWord → m ≡ 0 + 8 → y ≡ sets x m (line (n ∷ [])) → y ≡ sets o 0 (answerText (refused k))
+  unfolding answerText refusedWord
+  refusal-put en ex em ey = both-put o x y refusedWord (line (k ∷ [])) 0 m ex em (rw en at ey)
+
+  pub refusal-end : n ≡ k → m ≡ 0 + 8 → r ≡ m + length (line (n ∷ [])) → r ≡ length (answerText (refused k))
+  unfolding answerText refusedWord
+  refusal-end en em er = omega (arith, both-end refusedWord (line (k ∷ [])) 0 m r em (rw en at er))
+
+-- what is printed for some input
+module _ (bs : List ℕ) where
+  pub long-text : 8192 < length bs → listing bs ≡ tooLong
+  unfolding listing
+  long-text h = let z : leb (length bs) 8192 ≡ false = lt-leb (length bs) 8192 h in rw z
+
+  module _ (l : length bs ≤ 8192) (q : Planned) (p : Plans q (load bs)) where
+    short-text : listing bs ≡ answerText (load bs)
+    unfolding listing
+    short-text = let z : leb (length bs) 8192 ≡ true = le-leb (length bs) 8192 l in rw z
+
+    pub plan-text : q .answer ≡ Drawn → listing bs ≡ planText (planIn (q .board .plan))
+    unfolding said answerText
+    plan-text d =
+        let h : load bs ≡ held (jobOf (q .board .stars)) (planIn (q .board .plan)) = sym (rw d at (p .says)) in
+        short-text ∙ ap answerText h
+
+    pub refusal-text : (o x : List ℕ) (k r : ℕ)
+        → (r ≡ length (answerText (refused k))) × (x ≡ sets o 0 (answerText (refused k))) × (r ≤ 8192)
+        → q .answer ≡ Refused k → (r ≡ length (listing bs)) × (x ≡ sets o 0 (listing bs)) × (r ≤ 8192)
+    unfolding said
+    refusal-text o x k r e d =
+        let h : load bs ≡ refused k = sym (rw d at (p .says)) in
+        rw (short-text ∙ ap answerText h) e

@@ -1,0 +1,33 @@
+use Rattle.texts.proofs.Plans.{plan-put, plan-end}
+use borrow.Author.Needs.{needs}
+use Rattle.texts.proofs.list_plan.Statement.{statement}
+use Rattle.texts.proofs.list_plan.Tie as tie
+
+put-sheet-requires : tie.Need-put-sheet-requires
+put-sheet-requires c κs = search needs
+
+number-requires : tie.Need-number-requires
+number-requires c κs = search needs
+
+number-requires-2 : tie.Need-number-requires-2
+number-requires-2 c κs = search needs
+
+put-two-requires : tie.Need-put-two-requires
+put-two-requires c κs = search needs
+
+put-rects-requires : tie.Need-put-rects-requires
+put-rects-requires c κs = search needs
+
+returns : tie.Need-returns
+returns c = (search (plan-end, needs), search (plan-put, needs), search needs)
+
+pub list-plan-spec : {M : Type 1} → statement M
+list-plan-spec =
+    tie.close
+    (tie.spec
+    put-sheet-requires
+    number-requires
+    number-requires-2
+    put-two-requires
+    put-rects-requires
+    returns)

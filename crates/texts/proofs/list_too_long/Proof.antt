@@ -1,0 +1,14 @@
+use Rattle.floor.specs.Texts.{tooLong}
+use borrow.Author.Needs.{needs}
+use Rattle.texts.proofs.list_too_long.Statement.{statement}
+use Rattle.texts.proofs.list_too_long.Tie as tie
+
+put-too-long-requires : tie.Need-put-too-long-requires
+put-too-long-requires c κs = search needs
+
+returns : tie.Need-returns
+unfolding tooLong
+returns c = search needs
+
+pub list-too-long-spec : {M : Type 1} → statement M
+list-too-long-spec = tie.close (tie.spec put-too-long-requires returns)

@@ -1,0 +1,21 @@
+use Rattle.floor.specs.Texts.{sheetWord}
+use borrow.Author.Needs.{needs}
+use Rattle.texts.proofs.word.put_sheet.Statement.{statement}
+use Rattle.texts.proofs.word.put_sheet.Tie as tie
+
+slice-aggregate-put-word : tie.Need-slice-aggregate-put-word
+slice-aggregate-put-word c = search needs
+
+put-word-requires : tie.Need-put-word-requires
+put-word-requires c κs = search needs
+
+same-length : tie.Need-same-length
+same-length c = search needs
+
+returns : tie.Need-returns
+unfolding sheetWord
+returns c = search needs
+
+pub put-sheet-spec : {M : Type 1} → statement M
+put-sheet-spec =
+    tie.close (tie.spec slice-aggregate-put-word put-word-requires same-length returns)

@@ -1,0 +1,60 @@
+// What is printed of an answer, as text in a lent buffer.
+ghost use mathlib.Core.Path.{_≡_};
+ghost use Prim.Native.Nat.{_≤_};
+ghost use lib.ListN.{length};
+ghost use lib.Seq.{sets};
+ghost use Rattle.floor.specs.Plans.{refused};
+ghost use Rattle.floor.specs.Texts.{tooLong, planText, answerText, listing};
+ghost use Rattle.drawing.specs.Rects.{planIn};
+use drawing::Plan;
+
+mod number; // number.rt: a number in decimal
+mod line; // line.rt: numbers on one line
+mod word; // word.rt: the fixed words
+mod plan; // plan.rt: a line for each rectangle
+
+// The number of a refusal, as text at the front; how many bytes that takes is handed back.
+pub fn list_refusal(k: u8, out: &mut [u8; 8192]) -> usize
+    ensures { λ r. ⌜ (r ≡ length (answerText (refused k))) × (now (out .exit) ≡ sets (now (out .entry)) 0 (answerText (refused k))) × (r ≤ 8192) ⌝ }
+{
+    let next = word::put_refused(out, 0);
+    line::put_one(out, next, fields::wide(k))
+}
+
+// What is said of input that is too long, at the front; how many bytes that takes is handed back.
+pub fn list_too_long(out: &mut [u8; 8192]) -> usize
+    ensures { λ r. ⌜ (r ≡ length tooLong) × (now (out .exit) ≡ sets (now (out .entry)) 0 tooLong) × (r ≤ 8192) ⌝ }
+{
+    word::put_too_long(out, 0)
+}
+
+// A plan, as text at the front; how many bytes that takes is handed back.
+pub fn list_plan(plan: Plan, out: &mut [u8; 8192]) -> usize
+    ensures { λ r. ⌜ (r ≡ length (planText (planIn plan))) × (now (out .exit) ≡ sets (now (out .entry)) 0 (planText (planIn plan))) × (r ≤ 8192) ⌝ }
+{
+    let sheet = word::put_sheet(out, 0);
+    let first = line::put_two(
+        out,
+        sheet,
+        fields::number(plan.width),
+        fields::number(plan.height),
+    );
+    plan::put_rects(plan, out, first)
+}
+
+// What the listing program prints for some input, at the front; how many bytes that takes is handed back.
+pub fn list(input: &[u8], out: &mut [u8; 8192]) -> usize
+    ensures { λ r. ⌜ (r ≡ length (listing (now (input .entry)))) × (now (out .exit) ≡ sets (now (out .entry)) 0 (listing (now (input .entry))))
+        × (r ≤ 8192) ⌝ }
+{
+    if 8192 < input.len() {
+        return list_too_long(out);
+    }
+    let planned = board::plan_job(input);
+    let board = planned.board;
+    let answer = planned.answer;
+    match answer {
+        drawing::Answer::Drawn => list_plan(board.plan, out),
+        drawing::Answer::Refused(k) => list_refusal(k, out),
+    }
+}

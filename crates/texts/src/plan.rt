@@ -1,0 +1,40 @@
+// The rectangles of a plan, a line each, put at a place of a lent buffer.
+ghost use mathlib.Core.Path.{_≡_};
+ghost use Prim.Native.Nat.{_+_, _≤_, _<_};
+ghost use lib.ListN.{length};
+ghost use lib.Seq.{sets};
+ghost use Rattle.floor.specs.Plans.{rectOf, rectBytes};
+ghost use Rattle.floor.specs.Texts.{line, rectLines};
+ghost use Rattle.drawing.specs.Rects.{planIn};
+use crate::line;
+use drawing::Plan;
+
+// The line of one rectangle.
+fn put_rect(plan: Plan, v: usize, out: &mut [u8], at: usize) -> usize
+    requires { ⌜ (v < 100000) × (at + 30 ≤ length (now out)) ⌝ }
+    ensures { λ r. ⌜ (now (out .exit) ≡ sets (now (out .entry)) at (line (rectBytes (rectOf (planIn plan) v))))
+        × (r ≡ at + length (line (rectBytes (rectOf (planIn plan) v)))) × (r ≤ at + 30) ⌝ }
+{
+    let r = drawing::rectangle(plan, v);
+    let x1 = fields::number(r.x1);
+    let y1 = fields::number(r.y1);
+    let x2 = fields::number(r.x2);
+    let y2 = fields::number(r.y2);
+    line::put_five(out, at, r.vertex, x1, y1, x2, y2)
+}
+
+// The lines of all rectangles, of which there are at most 259.
+pub fn put_rects(plan: Plan, out: &mut [u8], at: usize) -> usize
+    requires { ⌜ at + 7770 ≤ length (now out) ⌝ }
+    ensures { λ r. ⌜ (now (out .exit) ≡ sets (now (out .entry)) at (rectLines (planIn plan .rects)))
+        × (r ≡ at + length (rectLines (planIn plan .rects))) × (r ≤ at + 7770) ⌝ }
+{
+    let many = fields::wide(plan.rooms) + 4;
+    let mut next = at;
+    let mut v: usize = 0;
+    while v < many {
+        next = put_rect(plan, v, out, next);
+        v += 1;
+    }
+    next
+}
