@@ -1,9 +1,16 @@
-// Floors of 60 rooms numbered many times over, each with its rooms in three orders: a line with the sum of all the numbers.
-// The first byte of the input, a to o, names one of the fifteen lines, and the second, 0 to 9, the rounds as a power of ten.
-// With no input every line is run, one round each.
+// Floors of 60 rooms numbered or loaded many times over, each with its rooms in three orders: a line with the sum of what came of it.
+// The first byte of the input names one of the fifteen floors, a to o to number it and A to O to load it, and the second, 0 to 9,
+// the rounds as a power of ten. With no input every line is run, one round each.
+use board::Reply;
 use jobs::Answer;
 use stars::Stars;
 use walls::Walls;
+
+// What is done many times over.
+enum What {
+    Numbers,
+    Loads,
+}
 
 // How the rooms lie: rows of bricks, columns of bricks, or a spiral from the middle outwards.
 enum Form {
@@ -347,6 +354,31 @@ fn total(stars: Stars, rounds: u64) -> u64 {
     sum
 }
 
+// 1 for a job that is loaded, and a thousand times the number of its refusal for one that is not.
+fn mark(reply: Reply) -> u64 {
+    match reply {
+        Reply::Done => 1,
+        Reply::Refused(k) => 1000 * (k as u64),
+        _ => 0,
+    }
+}
+
+// A job loaded so many times into one board, and the marks added up.
+fn loads(job: &[u8], rounds: u64) -> u64 {
+    let mut sum: u64 = 0;
+    let mut left = rounds;
+    let mut held = board::empty();
+    while 0 < left {
+        let step = held.load(job);
+        let next = step.board;
+        held = next;
+        let reply = step.reply;
+        sum = std::num::wrapping_add_u64(sum, mark(reply));
+        left -= 1;
+    }
+    sum
+}
+
 // The name of a line's floor.
 fn show_floor(line: u8) {
     match line / 3 {
@@ -432,20 +464,34 @@ fn show_total(job: &[u8], rounds: u64) {
     io::write_all(1, b"\n");
 }
 
-// The same over the job that ends at a place.
-fn show_part(job: &[u8], end: usize, rounds: u64) {
+// What so many loads of a job add up to.
+fn show_loads(job: &[u8], rounds: u64) {
+    io::write_all(1, b" loads ");
+    io::print_decimal(1, loads(job, rounds));
+    io::write_all(1, b"\n");
+}
+
+// Numberings, or loads, of the job that ends at a place.
+fn show_part(job: &[u8], end: usize, what: What, rounds: u64) {
     if end <= job.len() {
-        show_total(&job[..end], rounds);
+        match what {
+            What::Numbers => {
+                show_total(&job[..end], rounds);
+            }
+            What::Loads => {
+                show_loads(&job[..end], rounds);
+            }
+        }
     }
 }
 
 // The same of the longest job that there is room for.
-fn show_front(job: &[u8; 904], end: usize, rounds: u64) {
-    show_part(job, end, rounds);
+fn show_front(job: &[u8; 904], end: usize, what: What, rounds: u64) {
+    show_part(job, end, what, rounds);
 }
 
 // One line: the floor, the order, and the sum.
-fn show_line(line: u8, rounds: u64) {
+fn show_line(line: u8, what: What, rounds: u64) {
     show_floor(line);
     show_order(line);
     let mut job = [0u8; 904];
@@ -453,14 +499,15 @@ fn show_line(line: u8, rounds: u64) {
     job[2] = 1;
     job[3] = 60;
     let end = put_stars(&mut job, line_floor(line));
-    show_front(&job, end, rounds);
+    show_front(&job, end, what, rounds);
 }
 
 // Every line.
 fn show_all(rounds: u64) {
     let mut line: u8 = 0;
     while line < 15 {
-        show_line(line, rounds);
+        show_line(line, What::Numbers, rounds);
+        show_line(line, What::Loads, rounds);
         line += 1;
     }
 }
@@ -485,7 +532,11 @@ fn main() {
     let mut input = [0u8; 2];
     if io::read_full(0, &mut input) == 2 {
         if b'a' <= input[0] {
-            show_line(input[0] - b'a', power(input[1]));
+            show_line(input[0] - b'a', What::Numbers, power(input[1]));
+            return;
+        }
+        if b'A' <= input[0] {
+            show_line(input[0] - b'A', What::Loads, power(input[1]));
         }
     } else {
         show_all(1);

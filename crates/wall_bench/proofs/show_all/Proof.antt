@@ -15,6 +15,9 @@ loop-holds c = search needs
 show-line-requires : tie.Need-show-line-requires Inv-loop μ-loop
 show-line-requires c κs = search needs
 
+show-line-requires-2 : tie.Need-show-line-requires-2 Inv-loop μ-loop
+show-line-requires-2 c κs = search needs
+
 add-line : tie.Need-add-line Inv-loop μ-loop
 add-line c = search needs
 
@@ -30,4 +33,13 @@ returns c = search needs
 pub show-all-spec : {M : Type 1} → statement M
 show-all-spec =
     tie.close
-    (tie.spec Inv-loop μ-loop loop-holds show-line-requires add-line loop-less loop-again returns)
+    (tie.spec
+    Inv-loop
+    μ-loop
+    loop-holds
+    show-line-requires
+    show-line-requires-2
+    add-line
+    loop-less
+    loop-again
+    returns)

@@ -1,0 +1,52 @@
+use borrow.Author.Needs.{needs}
+use Rattle.wall_bench.proofs.loads.Statement.{statement}
+use Rattle.wall_bench.proofs.loads.Tie as tie
+
+abbrev Inv-loop : tie.InvT-loop
+Inv-loop job rounds sum₀ left₀ held₀ sum left held = Unit
+
+abbrev μ-loop : tie.MeasureT-loop
+μ-loop job rounds sum₀ left₀ held₀ sum left held = left
+
+empty-requires : tie.Need-empty-requires Inv-loop μ-loop
+empty-requires c κs = search needs
+
+loop-holds : tie.Need-loop-holds Inv-loop μ-loop
+loop-holds c = search needs
+
+load-requires : tie.Need-load-requires Inv-loop μ-loop
+load-requires c κs = search needs
+
+mark-requires : tie.Need-mark-requires Inv-loop μ-loop
+mark-requires c κs = search needs
+
+wrapping-add-u64-requires : tie.Need-wrapping-add-u64-requires Inv-loop μ-loop
+wrapping-add-u64-requires c κs = search needs
+
+sub-left : tie.Need-sub-left Inv-loop μ-loop
+sub-left c = search needs
+
+loop-less : tie.Need-loop-less Inv-loop μ-loop
+loop-less c = search needs
+
+loop-again : tie.Need-loop-again Inv-loop μ-loop
+loop-again c = search needs
+
+returns : tie.Need-returns Inv-loop μ-loop
+returns c = search needs
+
+pub loads-spec : {M : Type 1} → statement M
+loads-spec =
+    tie.close
+    (tie.spec
+    Inv-loop
+    μ-loop
+    empty-requires
+    loop-holds
+    load-requires
+    mark-requires
+    wrapping-add-u64-requires
+    sub-left
+    loop-less
+    loop-again
+    returns)
