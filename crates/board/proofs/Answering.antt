@@ -9,10 +9,10 @@ use lib.ListN.{length}
 use Rattle.floor.specs.Jobs.{Job, isVertex, fails, reads, readJob, firstSix, writeJob}
 use Rattle.floor.specs.Jobs.Facts.{six-passed, passes-of}
 use Rattle.floor.specs.Jobs.Written.{read-test2}
-use Rattle.floor.specs.Plans.{Plan, Answer, refused, held, drawn, rectOf, share, writePlan}
+use Rattle.floor.specs.Plans.{Plan, Answer, refused, held, drawn, rectOf, share, writePlan, drawRead}
 use Rattle.floor.specs.Turns.{turn}
-use Rattle.turns.specs.Turned.{turning}
-use Rattle.floor.specs.Calls.{drawRead, load, Board, empty, holding, loads, turns, rectangle, shares, writesJob, writesPlan, refusal, wrote}
+use Rattle.floor.specs.Turns.{turning}
+use Rattle.floor.specs.Calls.{load, Board, empty, holding, loads, turns, rectangle, shares, writesJob, writesPlan, refusal, wrote}
 use Rattle.floor.specs.Calls.Bytes.{plan-bytes}
 use Rattle.floor.specs.Calls.{Step, refuse, after, asks, writes, sharing, step}
 use Rattle.fields.specs.declared.Written.{Written}

@@ -10,10 +10,10 @@ use Rattle.floor.specs.Lists.Laws.{and-both}
 use Rattle.floor.specs.Fields.{readField, writeField}
 use Rattle.floor.specs.Jobs.{Job, test2, readJob, readFirst, readRooms, firstSix, writeStars, writeJob}
 use Rattle.floor.specs.Jobs.Written.{read-write-job}
-use Rattle.floor.specs.Plans.{Plan, Answer, refused, held, writePlan}
+use Rattle.floor.specs.Plans.{Plan, Answer, refused, held, writePlan, drawRead}
 use Rattle.floor.specs.Plans.Held.{not-held, one-number}
 use Rattle.floor.specs.Floor.{Floor}
-use Rattle.floor.specs.Calls.{drawRead, load, Board, empty, holding, Call, loads, turns, rectangle, shares, writesJob, writesPlan, Reply, refusal, done, spans, says, wrote}
+use Rattle.floor.specs.Calls.{load, Board, empty, holding, Call, loads, turns, rectangle, shares, writesJob, writesPlan, Reply, refusal, done, spans, says, wrote}
 use Rattle.floor.specs.Calls.{Step, refuse, after, asks, writes, step}
 use Rattle.floor.specs.Turns.{turn}
 use Rattle.floor.specs.Calls.Sound.{Sound, sound-good, load-held, load-reads, turn-held}

@@ -1,6 +1,6 @@
 -- The turned job of a held one, as the code comes by it. Assumes nothing.
 use Prim.Native.Nat.{ℕ, _≤_}
-use mathlib.Core.Path.{_≡_, refl, sym, ap, _∙_}
+use mathlib.Core.Path.{_≡_, refl, ap}
 use mathlib.Core.Bool.{true}
 use mathlib.Core.List.{List}
 use native.Mathlib.Omega.{arith}
@@ -8,17 +8,17 @@ use lib.ListN.{length, take, replicate, length-replicate}
 use Rattle.floor.specs.Jobs.{Job, test2, test3, Reading, fails, reads, readJob, writeJob}
 use Rattle.floor.specs.Jobs.Facts.{of-passes, passed-six}
 use Rattle.floor.specs.Jobs.Written.{read-write-job, length-writeJob}
-use Rattle.floor.specs.Plans.{Plan, refused, drawn}
+use Rattle.floor.specs.Plans.{Plan, drawn, drawRead}
 use Rattle.floor.specs.Turns.{turn}
 use Rattle.floor.specs.Turns.Turned.{Kept}
-use Rattle.floor.specs.Turns.Restore.{turned-keeps}
-use Rattle.floor.specs.Calls.{drawRead, load, refusal, wrote, refuse}
+use Rattle.floor.specs.Turns.Restore.{turnable, turned-keeps}
+use Rattle.floor.specs.Calls.{load, refusal, wrote, refuse}
 use Rattle.floor.specs.Calls.Sound.{Sound, sound-good}
 use Rattle.floor.specs.Calls.Bytes.{job-length-most}
 use Rattle.turns.specs.declared.Turned.{Turned}
 use Rattle.turns.specs.declared.Turned.the-variants.{Wrote, Refused}
-use Rattle.turns.specs.Turned.{turning, turnReply, turnWrites}
-use Rattle.turns.proofs.Corollaries.{turn-draws, turnable}
+use Rattle.floor.specs.Turns.{turning}
+use Rattle.turns.specs.Turned.{turnReply, turnWrites}
 use Rattle.drawing.specs.declared.Answer.the-variants.{Refused as Undrawn}
 use Rattle.drawing.specs.Drawn.{said}
 use Rattle.board.specs.declared.Planned.{Planned}
@@ -57,8 +57,8 @@ module _ (j : Job) (p : Plan) (s : Sound j p) (u v : ℕ) where
 
   -- LOADING THE TURNED JOB IS THE TURN
   pub turn-loads : turnLoads (turning j u v) ≡ turn j u v
-  unfolding turnLoads drawRead
-  turn-loads = go (turning j u v) refl ∙ sym (turn-draws j u v)
+  unfolding turnLoads turn drawRead
+  turn-loads = go (turning j u v) refl
     where
       go : (x : Reading) → turning j u v ≡ x → turnLoads x ≡ drawRead x
       go (fails k) e = refl

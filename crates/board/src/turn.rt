@@ -2,7 +2,7 @@
 ghost use lib.ListN.{take};
 ghost use Rattle.floor.specs.Calls.{load};
 ghost use Rattle.stars.specs.Held.{jobOf};
-ghost use Rattle.turns.specs.Turned.{turning};
+ghost use Rattle.floor.specs.Turns.{turning};
 ghost use Rattle.board.specs.Boards.{turnLoads, fits, Plans};
 use crate::Planned;
 use stars::Stars;

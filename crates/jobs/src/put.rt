@@ -8,19 +8,6 @@ ghost use Rattle.stars.specs.Held.{cells, startOf, endOf, jobOf};
 ghost use Rattle.jobs.specs.Writes.{starField};
 use stars::Stars;
 
-// How many entries a star has.
-fn star_length<'a>(ends: &'a [u16], nbr: &'a [u16], i: usize) -> usize
-    ensures { λ r. ⌜ (r ≡ endOf (now (ends .entry)) (length (now (nbr .entry))) i - startOf (now (ends .entry)) (length (now (nbr .entry))) i)
-        × (startOf (now (ends .entry)) (length (now (nbr .entry))) i + r ≤ length (now (nbr .entry))) ⌝ }
-{
-    let start = stars::held::start_of(ends, nbr.len(), i);
-    let end = stars::held::end_of(ends, nbr.len(), i);
-    if end < start {
-        return 0;
-    }
-    end - start
-}
-
 // The m entries from a place on, written.
 fn put_pairs<'a>(out: &mut [u8], at: usize, nbr: &'a [u16], kind: &'a [u8], from: usize, m: usize)
     requires { ⌜ (at + 2 * m ≤ length (now out)) × (from + m ≤ length (now nbr)) ⌝ }
@@ -50,7 +37,7 @@ fn put_field<'a>(
         × (r ≡ at + length (starField (now (ends .entry)) (now (nbr .entry)) (now (kind .entry)) i)) ⌝ }
 {
     let from = stars::held::start_of(ends, nbr.len(), i);
-    let m = star_length(ends, nbr, i);
+    let m = stars::held::star_length(ends, nbr, i);
     fields::put_head(out, at, 2, (2 * m) as u16);
     put_pairs(out, at + 3, nbr, kind, from, m);
     at + 3 + 2 * m
@@ -78,7 +65,7 @@ pub fn job_length(stars: Stars) -> usize
     let mut total: usize = 4;
     let mut i: usize = 0;
     while i < count {
-        total += 3 + 2 * star_length(&stars.ends, &stars.nbr, i);
+        total += 3 + 2 * stars::held::star_length(&stars.ends, &stars.nbr, i);
         i += 1;
     }
     total

@@ -3,7 +3,7 @@ ghost use mathlib.Core.Path.{_≡_};
 ghost use mathlib.Core.Bool.{_&&_};
 ghost use Prim.Native.Nat.{_+_, _-_, _≤_, _<_};
 ghost use lib.Dec.{eqb};
-ghost use lib.ListN.{getD};
+ghost use lib.ListN.{length, getD};
 ghost use Rattle.floor.specs.Jobs.{starOf, names, lists, test6};
 ghost use Rattle.stars.specs.Held.{toAt, entryAt, cells, endOf, startOf, heldStar, starsIn, jobOf, noStars, placeIn, answers, starAnswers};
 use crate::Stars;
@@ -42,6 +42,19 @@ pub fn start_of(ends: &[u16], most: usize, i: usize) -> usize
         return 0;
     }
     end_of(ends, most, i - 1)
+}
+
+// How many entries a star has.
+pub fn star_length<'a>(ends: &'a [u16], nbr: &'a [u16], i: usize) -> usize
+    ensures { λ r. ⌜ (r ≡ endOf (now (ends .entry)) (length (now (nbr .entry))) i - startOf (now (ends .entry)) (length (now (nbr .entry))) i)
+        × (startOf (now (ends .entry)) (length (now (nbr .entry))) i + r ≤ length (now (nbr .entry))) ⌝ }
+{
+    let start = start_of(ends, nbr.len(), i);
+    let end = end_of(ends, nbr.len(), i);
+    if end < start {
+        return 0;
+    }
+    end - start
 }
 
 // The neighbour at a place.

@@ -19,7 +19,8 @@ use Rattle.stars.specs.declared.Stars.{Stars}
 use Rattle.stars.specs.Held.{heldStar, jobOf}
 use Rattle.turns.specs.declared.Turned.{Turned}
 use Rattle.turns.specs.declared.Turned.the-variants.{Wrote, Refused}
-use Rattle.turns.specs.Turned.{turningAt, turningFrom, turning, turnReply, turnWrites}
+use Rattle.floor.specs.Turns.{turningAt, turningFrom, turning}
+use Rattle.turns.specs.Turned.{turnReply, turnWrites}
 use Rattle.turns.specs.Rewrites.{valuePlace, twoTurned}
 use Rattle.turns.proofs.Contacts.{held-count, room-held, contact-rooms}
 use Rattle.turns.proofs.Rewriting.{length-rekinded, over-job, same-place, same-size, same-length}

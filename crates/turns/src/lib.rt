@@ -1,7 +1,8 @@
 // Turning: the held job with one contact turned, written as bytes. The held stars stay as they are.
 ghost use mathlib.Core.Path.{_≡_};
 ghost use Rattle.stars.specs.Held.{jobOf};
-ghost use Rattle.turns.specs.Turned.{turning, turnReply, turnWrites};
+ghost use Rattle.floor.specs.Turns.{turning};
+ghost use Rattle.turns.specs.Turned.{turnReply, turnWrites};
 use stars::Stars;
 
 mod contact; // contact.rt: whether two rooms are in contact, and the lists that the contact stands in

@@ -61,7 +61,7 @@ fn put_entries<'a>(
         (starBytes (rekinded (heldStar (now (ends .entry)) (now (nbr .entry)) (now (kind .entry)) i) v new)) ⌝ }
 {
     let from = stars::held::start_of(ends, nbr.len(), i);
-    let m = crate::shift::entries_of(ends, nbr, i);
+    let m = stars::held::star_length(ends, nbr, i);
     let n = crate::shift::shift_of(ends, nbr, kind, i, v, new);
     put_part(out, at, nbr, kind, from + n, m - n, v, new);
     put_part(out, at + 2 * (m - n), nbr, kind, from, n, v, new);
@@ -75,7 +75,7 @@ fn value_place(stars: Stars, i: usize) -> usize
     let mut at: usize = 7;
     let mut k: usize = 0;
     while k < i {
-        at += 3 + 2 * crate::shift::entries_of(&stars.ends, &stars.nbr, k);
+        at += 3 + 2 * stars::held::star_length(&stars.ends, &stars.nbr, k);
         k += 1;
     }
     at

@@ -20,19 +20,6 @@ fn goes(old: u8, new: u8, first: u8, second: u8, to: usize, v: usize) -> bool
     to == v
 }
 
-// How many entries a star has.
-pub fn entries_of<'a>(ends: &'a [u16], nbr: &'a [u16], i: usize) -> usize
-    ensures { λ r. ⌜ (r ≡ endOf (now (ends .entry)) (length (now (nbr .entry))) i - startOf (now (ends .entry)) (length (now (nbr .entry))) i)
-        × (startOf (now (ends .entry)) (length (now (nbr .entry))) i + r ≤ length (now (nbr .entry))) ⌝ }
-{
-    let from = stars::held::start_of(ends, nbr.len(), i);
-    let end = stars::held::end_of(ends, nbr.len(), i);
-    if end < from {
-        return 0;
-    }
-    end - from
-}
-
 // How many entries go from the front to the end when the vertex's kind changes in a star.
 pub fn shift_of<'a>(
     ends: &'a [u16],

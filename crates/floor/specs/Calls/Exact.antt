@@ -14,17 +14,17 @@ use Rattle.floor.specs.Fields.{Field, broken, field, readField}
 use Rattle.floor.specs.Jobs.{passing, firstSix, Star, Room, starOf, kindOf, Job, opposite, readStars, test2, test3, test4, test5, test6, Reading, fails}
 use Rattle.floor.specs.Jobs.{reads, readRest, readRooms, readFirst, readJob}
 use Rattle.floor.specs.Jobs.Stars.{entry, GoodStar, kindOf-mid, mem-names}
-use Rattle.floor.specs.Jobs.Facts.{SixPassed, room-is, Passes, passes-of}
+use Rattle.floor.specs.Jobs.Facts.{SixPassed, room-is, Passes, passes-of, passing-true}
 use Rattle.floor.specs.Walls.{Numbers, Axis, upright, level, rules, at, jobNumbers}
 use Rattle.floor.specs.Walls.Walk.{unique, numbers-respects}
 use Rattle.floor.specs.Walls.Rules.{numbered, numbers-are, to-vertex}
-use Rattle.floor.specs.Plans.{Plan, planOf, drawable, Answer, refused, held, past, test8, tested, planned, drawn}
-use Rattle.floor.specs.Plans.Held.{past-true, Drawn, drawn-held, drawn-again}
+use Rattle.floor.specs.Plans.{Plan, planOf, drawable, Answer, refused, held, past, test8, tested, planned, drawn, drawRead}
+use Rattle.floor.specs.Plans.Held.{Drawn, drawn-held, drawn-again}
 use Rattle.floor.specs.Turns.Swing.{named-front}
 use Rattle.floor.specs.Turns.Ends.{opposite-opposite}
 use Rattle.floor.specs.Turns.Restore.{Turnable, turnedBy, asked, turned-keeps}
-use Rattle.floor.specs.Turns.{inContact, turn, turnAt, turnFrom, turned}
-use Rattle.floor.specs.Calls.{drawRead, load}
+use Rattle.floor.specs.Turns.{inContact, turn, turning, turningAt, turningFrom, turned}
+use Rattle.floor.specs.Calls.{load}
 use Rattle.floor.specs.Calls.Sound.{Sound, sound-good, load-held, load-six}
 
 -- A LABELLING NUMBERED AND TESTED, by the text alone: numbers for both directions, the plan by them, tests 8 and 9
@@ -155,18 +155,25 @@ load-answers bs = go (firstSix (readJob bs)) (six-answers (readJob bs) (read-ans
     go (fails k) h = unfold drawRead in (h .0, omega (arith, h .1))
     go (reads j) h = unfold drawRead in wider 1 9 7 9 (drawn j) (omega arith) (omega arith) (drawn-answers j)
 
+passing-answers : (b : Bool) (k : ℕ) (r : Reading) → 7 ≤ k → k ≤ 12 → Answers 7 12 (drawRead r) → Answers 7 12 (drawRead (passing b k r))
+unfolding passing drawRead
+passing-answers true k r l h a = a
+passing-answers false k r l h a = (l, h)
+
 -- EVERY TURN of a held plan ANSWERS: a plan, or one of the refusals 7 to 12 (10 is given where no plan is held)
 pub turn-answers : (j : Job) (u v : ℕ) → Answers 7 12 (turn j u v)
 unfolding turn
-turn-answers j u v = past-answers 7 12 _ 11 _ (omega arith) (omega arith) (go _ u v _)
+turn-answers j u v = unfold turning in passing-answers _ 11 _ (omega arith) (omega arith) (go _ u v _)
   where
-    at-answers : (a b k : ℕ) → Answers 7 12 (turnAt j a b k)
-    at-answers a b k = unfold turnAt in past-answers 7 12 _ 12 _ (omega arith) (omega arith) (wider 7 12 7 9 (drawn (turned j a b k)) (omega arith)
-        (omega arith) (drawn-answers (turned j a b k)))
+    reads-answers : (i : Job) → Answers 7 12 (drawRead (reads i))
+    reads-answers i = unfold drawRead in wider 7 12 7 9 (drawn i) (omega arith) (omega arith) (drawn-answers i)
 
-    go : (c : Bool) (u v k : ℕ) → Answers 7 12 (turnFrom c j u v k)
-    go true u v k = unfold turnFrom in at-answers u v k
-    go false u v k = unfold turnFrom in at-answers v u (opposite k)
+    at-answers : (a b k : ℕ) → Answers 7 12 (drawRead (turningAt j a b k))
+    at-answers a b k = unfold turningAt in passing-answers _ 12 _ (omega arith) (omega arith) (reads-answers (turned j a b k))
+
+    go : (c : Bool) (u v k : ℕ) → Answers 7 12 (drawRead (turningFrom c j u v k))
+    go true u v k = unfold turningFrom in at-answers u v k
+    go false u v k = unfold turningFrom in at-answers v u (opposite k)
 
 -- A TURN THAT THE RULES ACCEPT: a contact that can be turned, and its turned labelling numbered and tested afresh
 pub record Turned (j : Job) (u v : ℕ) (i : Job) (q : Plan) : Type 0 where
@@ -193,16 +200,16 @@ module _ (j : Job) (p : Plan) (s : Sound j p) where
 
   -- a turn, asked from the lower or the left room, or from the other
   turn-at : (a b m : ℕ) → Room j a → Room j b → (m ≡ 0) ⊎ (m ≡ 3) → List·Memᴰ (entry b m) (starOf j a)
-      → (turn j a b ≡ turnAt j a b m) × (turn j b a ≡ turnAt j a b m)
-  unfolding turn turnFrom inContact
+      → (turning j a b ≡ turningAt j a b m) × (turning j b a ≡ turningAt j a b m)
+  unfolding turning turningFrom inContact
   turn-at a b m ra rb up i =
       let (x, y) = asks-up m up in
       let small : m ≤ 3 = ok .entries a ra (entry b m) i .small in
       let back : List·Memᴰ (entry a (opposite m)) (starOf j b) = ok .opposed a ra (entry b m) i (rb .0) in
       let ka : kindOf (starOf j a) b ≡ m = kind-found (starOf j a) b m (ok .good a ra) i in
       let kb : kindOf (starOf j b) a ≡ opposite m = kind-found (starOf j b) a (opposite m) (ok .good b rb) back in (
-        past-true _ 11 _ (and-both _ _ (and-both _ _ (room-is j a ra) (room-is j b rb)) (mem-names (starOf j a) b m i)) ∙ rw (ka, x),
-        past-true _ 11 _ (and-both _ _ (and-both _ _ (room-is j b rb) (room-is j a ra)) (mem-names (starOf j b) a (opposite m) back))
+        passing-true _ 11 _ (and-both _ _ (and-both _ _ (room-is j a ra) (room-is j b rb)) (mem-names (starOf j a) b m i)) ∙ rw (ka, x),
+        passing-true _ 11 _ (and-both _ _ (and-both _ _ (room-is j b rb) (room-is j a ra)) (mem-names (starOf j b) a (opposite m) back))
             ∙ rw (kb, y, opposite-opposite m small),
       )
 
@@ -219,17 +226,17 @@ module _ (j : Job) (p : Plan) (s : Sound j p) where
           go : (t : Turnable j u v) → i ≡ turnedBy t → turn j u v ≡ held i q
           go t e = two (t .a) (t .b) (t .who) (turn-at (t .a) (t .b) (t .m) (t .room-a) (t .room-b) (t .above-or-right) (t .contact))
             where
-              drawn-is : turnAt j (t .a) (t .b) (t .m) ≡ held i q
-              drawn-is = unfold turnAt in (
-                  past-true _ 12 _ (and-both _ _ (le-leb 2 _ (t .many-a)) (le-leb 2 _ (t .many-b)))
+              drawn-is : drawRead (turningAt j (t .a) (t .b) (t .m)) ≡ held i q
+              drawn-is = unfold turningAt drawRead in (
+                  ap drawRead (passing-true _ 12 _ (and-both _ _ (le-leb 2 _ (t .many-a)) (le-leb 2 _ (t .many-b))))
                   ∙ ap drawn (sym e)
                   ∙ drawn-again i q (numbered-drawn i (rw e (keeps t)) q (r .is-numbered))
                   )
 
               two : (a b : ℕ) → ((a ≡ u) × (b ≡ v)) ⊎ ((a ≡ v) × (b ≡ u))
-                  → (turn j a b ≡ turnAt j (t .a) (t .b) (t .m)) × (turn j b a ≡ turnAt j (t .a) (t .b) (t .m)) → turn j u v ≡ held i q
-              two a b (inl (x, y)) both = rw (← x, ← y) (both .0 ∙ drawn-is)
-              two a b (inr (x, y)) both = rw (← x, ← y) (both .1 ∙ drawn-is)
+                  → (turning j a b ≡ turningAt j (t .a) (t .b) (t .m)) × (turning j b a ≡ turningAt j (t .a) (t .b) (t .m)) → turn j u v ≡ held i q
+              two a b (inl (x, y)) both = unfold turn in (rw (← x, ← y) (ap drawRead (both .0) ∙ drawn-is))
+              two a b (inr (x, y)) both = unfold turn in (rw (← x, ← y) (ap drawRead (both .1) ∙ drawn-is))
 
       forth : turn j u v ≡ held i q → Turned j u v i q
       forth h =

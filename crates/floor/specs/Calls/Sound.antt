@@ -10,13 +10,13 @@ use Rattle.floor.specs.Lists.Laws.{and-parts}
 use Rattle.floor.specs.Jobs.{firstSix, Job, test2, test3, Reading, fails, reads, readJob, writeJob}
 use Rattle.floor.specs.Jobs.Facts.{Passes, passes-of, of-passes, SixPassed, six-passed, passed-six}
 use Rattle.floor.specs.Jobs.Written.{read-test2}
-use Rattle.floor.specs.Plans.{Plan, Answer, refused, held, writePlan}
+use Rattle.floor.specs.Plans.{Plan, Answer, refused, held, drawRead, writePlan}
 use Rattle.floor.specs.Plans.Held.{not-held, Drawn, drawn-held, drawn-again, held-good}
 use Rattle.floor.specs.Floor.{GoodPlan}
 use Rattle.floor.specs.Turns.{turn}
 use Rattle.floor.specs.Turns.Turned.{Kept}
 use Rattle.floor.specs.Turns.Restore.{turnedBy, asked, turned-keeps}
-use Rattle.floor.specs.Calls.{drawRead, load, Board, empty, holding, Call, loads, turns, rectangle, shares, writesJob, writesPlan, Reply, refuse, after}
+use Rattle.floor.specs.Calls.{load, Board, empty, holding, Call, loads, turns, rectangle, shares, writesJob, writesPlan, Reply, refuse, after}
 use Rattle.floor.specs.Calls.{asks, writes, step, run}
 
 -- WHAT IS HELD: a job past tests 2 to 6, and its own drawing

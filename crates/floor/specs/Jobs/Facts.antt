@@ -154,6 +154,10 @@ of-passes j k = (
     star-ok s (i, l, e) = of-good s (rw (star-at j i, e) at (k .good (4 + i) (omega arith, omega arith)))
 
 -- TESTS 3 TO 6 PASSED, one after the other
+pub passing-true : (b : Bool) (k : ℕ) (r : Reading) → b ≡ true → passing b k r ≡ r
+unfolding passing
+passing-true b k r e = rw e
+
 pub passing-reads : (b : Bool) (k : ℕ) (r : Reading) (j : Job) → passing b k r ≡ reads j → (b ≡ true) × (r ≡ reads j)
 unfolding passing
 passing-reads true k r j e = (refl, e)

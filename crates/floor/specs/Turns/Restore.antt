@@ -1,7 +1,7 @@
 -- A contact that can be turned, in the text's words; in a held plan its turned labelling keeps tests 4 to 6, and turned again at once gives back the job.
 -- Assumes nothing.
 use Prim.Native.Nat.{ℕ, _≤_}
-use mathlib.Core.Path.{_≡_, refl, sym, _∙_}
+use mathlib.Core.Path.{_≡_, refl, sym, ap, _∙_}
 use mathlib.Core.Logic.{_⊎_, inl, inr}
 use mathlib.Core.Bool.{Bool, true, false, _&&_, _||_}
 use mathlib.Core.List.{_∷_, _++_, List·Memᴰ}
@@ -11,13 +11,13 @@ use native.Mathlib.Omega.{arith}
 use borrow.Author.Tests.{eqb-true, leb-true, eq-eqb, ne-eqb}
 use Rattle.floor.specs.Lists.{isLast}
 use Rattle.floor.specs.Lists.Laws.{no-false, or-cases, and-parts, Apart, apart-at}
-use Rattle.floor.specs.Jobs.{Star, Job, Room, opposite, isRoom, starOf, names, kindOf, listOf}
+use Rattle.floor.specs.Jobs.{Star, Job, Room, opposite, isRoom, starOf, names, kindOf, listOf, Reading, fails, reads}
 use Rattle.floor.specs.Jobs.Stars.{entry, ofKind, GoodStar, kindOf-mem}
-use Rattle.floor.specs.Jobs.Facts.{Passes, is-room}
-use Rattle.floor.specs.Plans.{Plan, held, drawn}
-use Rattle.floor.specs.Plans.Held.{past-held}
+use Rattle.floor.specs.Jobs.Facts.{Passes, is-room, passing-reads}
+use Rattle.floor.specs.Plans.{Plan, held, drawn, drawRead}
+use Rattle.floor.specs.Plans.Held.{not-held}
 use Rattle.floor.specs.Floor.{GoodPlan}
-use Rattle.floor.specs.Turns.{turned, turnAt, turnFrom, inContact, turn}
+use Rattle.floor.specs.Turns.{turned, turningAt, turningFrom, inContact, turning, turn}
 use Rattle.floor.specs.Turns.Swing.{AtEnd, swing, length-listOf, last-mid, named-back}
 use Rattle.floor.specs.Turns.Turned.{Turn, turn-again, Kept, turn-keeps}
 use Rattle.floor.specs.Turns.Ends.{each-kind, opposite-small, at-ends}
@@ -39,14 +39,6 @@ pub record Turnable (j : Job) (u v : ℕ) : Type 0 where
 abbrev pub turnedBy : {j : Job} {u v : ℕ} → Turnable j u v → Job
 turnedBy {j} {u} {v} t = turned j (t .a) (t .b) (t .m)
 
-turnAt-held : (j : Job) (a b m : ℕ) {i : Job} {q : Plan} → turnAt j a b m ≡ held i q
-    → (2 ≤ length (listOf (starOf j a) m)) × (2 ≤ length (listOf (starOf j b) (opposite m))) × (drawn (turned j a b m) ≡ held i q)
-unfolding turnAt
-turnAt-held j a b m h =
-    let (t, d) = past-held (leb 2 (length (listOf (starOf j a) m)) && leb 2 (length (listOf (starOf j b) (opposite m)))) 12 _ h in
-    let (x, y) = and-parts _ _ t in
-    (leb-true 2 (length (listOf (starOf j a) m)) x, leb-true 2 (length (listOf (starOf j b) (opposite m))) y, d)
-
 -- kinds 1 and 2 are asked for from the other side
 from-other : (k : ℕ) → k ≤ 3 → (eqb k 0 || eqb k 3) ≡ false → (opposite k ≡ 0) ⊎ (opposite k ≡ 3)
 unfolding opposite
@@ -54,34 +46,57 @@ from-other =
     each-kind (λ k. (eqb k 0 || eqb k 3) ≡ false → (opposite k ≡ 0) ⊎ (opposite k ≡ 3)) (λ e. no-false (sym e)) (λ e. inr refl) (λ e. inl refl)
     (λ e. no-false (sym e))
 
+module _ (j : Job) (u v : ℕ) (ok : Passes j) where
+  -- the kind with which u's star names v
+  abbrev kind : ℕ
+  kind = kindOf (starOf j u) v
+
+  -- where the lists are long enough
+  long-lists : (a b m : ℕ) (i : Job) → turningAt j a b m ≡ reads i
+      → (2 ≤ length (listOf (starOf j a) m)) × (2 ≤ length (listOf (starOf j b) (opposite m))) × (turned j a b m ≡ i)
+  unfolding turningAt
+  long-lists a b m i h =
+      let (t, d) = passing-reads (leb 2 (length (listOf (starOf j a) m)) && leb 2 (length (listOf (starOf j b) (opposite m)))) 12 _ i h in
+      let (x, y) = and-parts (leb 2 (length (listOf (starOf j a) m))) (leb 2 (length (listOf (starOf j b) (opposite m)))) t in
+      (leb-true 2 (length (listOf (starOf j a) m)) x, leb-true 2 (length (listOf (starOf j b) (opposite m))) y, same-job d)
+    where
+      same-job : {k l : Job} → reads k ≡ reads l → k ≡ l
+      same-job e = cc
+
+  -- A TURNED JOB is that of a contact with at least two on both lists
+  pub turnable : (i : Job) → turning j u v ≡ reads i → (t : Turnable j u v) × (turnedBy t ≡ i)
+  unfolding turning turningFrom inContact
+  turnable i h =
+      let (c, d) = passing-reads (isRoom j u && isRoom j v && names (starOf j u) v) 11 _ i h in
+      let (xy, n) = and-parts (isRoom j u && isRoom j v) (names (starOf j u) v) c in
+      let (x, y) = and-parts (isRoom j u) (isRoom j v) xy in
+      go (eqb kind 0 || eqb kind 3) refl (is-room j u x) (is-room j v y) (kindOf-mem (starOf j u) v n) d
+    where
+      either : (eqb kind 0 ≡ true) ⊎ (eqb kind 3 ≡ true) → (kind ≡ 0) ⊎ (kind ≡ 3)
+      either (inl e) = inl (eqb-true kind 0 e)
+      either (inr e) = inr (eqb-true kind 3 e)
+
+      contact-of : (a b m : ℕ) → ((a ≡ u) × (b ≡ v)) ⊎ ((a ≡ v) × (b ≡ u)) → (m ≡ 0) ⊎ (m ≡ 3) → Room j a → Room j b
+          → List·Memᴰ (entry b m) (starOf j a) → turningAt j a b m ≡ reads i → (t : Turnable j u v) × (turnedBy t ≡ i)
+      contact-of a b m who up ra rb c g =
+          let (x, y, z) = long-lists a b m i g in
+          (record { a = a; b = b; m = m; who = who; above-or-right = up; room-a = ra; room-b = rb; contact = c; many-a = x; many-b = y }, z)
+
+      go : (c : Bool) → (eqb kind 0 || eqb kind 3) ≡ c → Room j u → Room j v → List·Memᴰ (entry v kind) (starOf j u)
+          → turningFrom c j u v kind ≡ reads i → (t : Turnable j u v) × (turnedBy t ≡ i)
+      go true e ru rv m g = contact-of u v kind (inl (refl, refl)) (either (or-cases (eqb kind 0) (eqb kind 3) e)) ru rv m g
+      go false e ru rv m g =
+          contact-of v u (opposite kind) (inr (refl, refl)) (from-other kind (ok .entries u ru (entry v kind) m .small) e) rv ru
+          (ok .opposed u ru (entry v kind) m (rv .0)) g
+
 -- A TURN THAT HOLDS was of such a contact, and its turned job was drawn
 pub asked : (j : Job) (u v : ℕ) (i : Job) (q : Plan) → Passes j → turn j u v ≡ held i q → (t : Turnable j u v) × (drawn (turnedBy t) ≡ held i q)
-unfolding turn turnFrom inContact
-asked j u v i q ok h =
-    let (c, d) = past-held (isRoom j u && isRoom j v && names (starOf j u) v) 11 _ h in
-    let (xy, n) = and-parts _ _ c in
-    let (x, y) = and-parts _ _ xy in
-    go (eqb (kindOf (starOf j u) v) 0 || eqb (kindOf (starOf j u) v) 3) refl (is-room j u x) (is-room j v y) (kindOf-mem (starOf j u) v n) d
+unfolding turn drawRead
+asked j u v i q ok h = go (turning j u v) refl h
   where
-    k : ℕ
-    k = kindOf (starOf j u) v
-
-    either : (eqb k 0 ≡ true) ⊎ (eqb k 3 ≡ true) → (k ≡ 0) ⊎ (k ≡ 3)
-    either (inl e) = inl (eqb-true k 0 e)
-    either (inr e) = inr (eqb-true k 3 e)
-
-    contact-of : (a b m : ℕ) → ((a ≡ u) × (b ≡ v)) ⊎ ((a ≡ v) × (b ≡ u)) → (m ≡ 0) ⊎ (m ≡ 3) → Room j a → Room j b → List·Memᴰ (entry b m) (starOf j a)
-        → turnAt j a b m ≡ held i q → (t : Turnable j u v) × (drawn (turnedBy t) ≡ held i q)
-    contact-of a b m who up ra rb c g =
-        let (x, y, z) = turnAt-held j a b m g in
-        (record { a = a; b = b; m = m; who = who; above-or-right = up; room-a = ra; room-b = rb; contact = c; many-a = x; many-b = y }, z)
-
-    go : (c : Bool) → (eqb k 0 || eqb k 3) ≡ c → Room j u → Room j v → List·Memᴰ (entry v k) (starOf j u) → turnFrom c j u v k ≡ held i q
-        → (t : Turnable j u v) × (drawn (turnedBy t) ≡ held i q)
-    go true e ru rv m g = contact-of u v k (inl (refl, refl)) (either (or-cases (eqb k 0) (eqb k 3) e)) ru rv m g
-    go false e ru rv m g =
-        contact-of v u (opposite k) (inr (refl, refl)) (from-other k (ok .entries u ru (entry v k) m .small) e) rv ru
-        (ok .opposed u ru (entry v k) m (rv .0)) g
+    go : (r : Reading) → turning j u v ≡ r → drawRead r ≡ held i q → (t : Turnable j u v) × (drawn (turnedBy t) ≡ held i q)
+    go (fails k) e h = not-held h
+    go (reads l) e h = let (t, f) = turnable j u v ok l e in (t, ap drawn f ∙ h)
 
 -- A CONTACT OF A GOOD PLAN with at least two on both lists turns so
 turn-of : (j : Job) (ok : Passes j) (p : Plan) (gp : GoodPlan j p) (a b m : ℕ) → Room j a → Room j b → List·Memᴰ (entry b m) (starOf j a)

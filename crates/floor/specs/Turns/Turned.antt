@@ -12,12 +12,11 @@ use native.Mathlib.Decide.{decLt, ℕ-discrete}
 use borrow.Author.Tests.{le-leb}
 use Rattle.floor.specs.Lists.{sum, isLast}
 use Rattle.floor.specs.Lists.Laws.{and-both, any-count}
-use Rattle.floor.specs.Jobs.{Entry, Star, Job, Room, opposite, isRoom, starOf, names, kindOf, listOf, pairsIn}
+use Rattle.floor.specs.Jobs.{Entry, Star, Job, Room, opposite, isRoom, starOf, names, kindOf, listOf, pairsIn, Reading, reads}
 use Rattle.floor.specs.Jobs.Stars.{entry, named, GoodStar, mem-names}
-use Rattle.floor.specs.Jobs.Facts.{EntryOk, Passes, room-is, star-room, star-frame}
-use Rattle.floor.specs.Plans.{Answer, drawn, joined}
-use Rattle.floor.specs.Plans.Held.{past-true}
-use Rattle.floor.specs.Turns.{turnedKind, rekinded, turned, turnAt, turnFrom, inContact, turn}
+use Rattle.floor.specs.Jobs.Facts.{EntryOk, Passes, room-is, star-room, star-frame, passing-true}
+use Rattle.floor.specs.Plans.{drawn, drawRead, joined}
+use Rattle.floor.specs.Turns.{turnedKind, rekinded, turned, turningAt, turningFrom, inContact, turning, turn}
 use Rattle.floor.specs.Turns.Swing.{Swing, length-listOf}
 use Rattle.floor.specs.Turns.Ends.{each-kind, opposite-opposite, opposite-small}
 
@@ -312,40 +311,44 @@ module _ (j : Job) (a b m : ℕ) (T : Turn j a b m) where
   two-b : 2 ≤ length (listOf (starOf next b) o)
   two-b = rw (length-listOf (starOf next b) o, star-b) (T .swing-b .two)
 
-  at-a : turnAt next a b t ≡ drawn j
-  unfolding turnAt
-  at-a = past-true _ 12 _ (rw t-o (and-both _ _ (le-leb 2 _ two-a) (le-leb 2 _ two-b))) ∙ ap drawn again-a
+  at-a : turningAt next a b t ≡ reads j
+  unfolding turningAt
+  at-a = passing-true _ 12 _ (rw t-o (and-both _ _ (le-leb 2 _ two-a) (le-leb 2 _ two-b))) ∙ ap reads again-a
 
-  at-b : turnAt next b a o ≡ drawn j
-  unfolding turnAt
-  at-b = past-true _ 12 _ (rw o-t (and-both _ _ (le-leb 2 _ two-b) (le-leb 2 _ two-a))) ∙ ap drawn again-b
+  at-b : turningAt next b a o ≡ reads j
+  unfolding turningAt
+  at-b = passing-true _ 12 _ (rw o-t (and-both _ _ (le-leb 2 _ two-b) (le-leb 2 _ two-a))) ∙ ap reads again-b
 
   room-next : (w : ℕ) → Room j w → isRoom next w ≡ true
   room-next w r = room-is next w (r .0, omega (arith, r .1, long))
 
 -- a turn asked for from either side, where both ways of asking give one answer
-asked-either : (i : Job) (u v k : ℕ) (r : Answer) → inContact i u v ≡ true → kindOf (starOf i u) v ≡ k → turnAt i u v k ≡ r
-    → turnAt i v u (opposite k) ≡ r → turn i u v ≡ r
-unfolding turn turnFrom
-asked-either i u v k r c e x y = past-true (inContact i u v) 11 _ c ∙ rw e (go (eqb k 0 || eqb k 3))
+asked-either : (i : Job) (u v k : ℕ) (r : Reading) → inContact i u v ≡ true → kindOf (starOf i u) v ≡ k → turningAt i u v k ≡ r
+    → turningAt i v u (opposite k) ≡ r → turning i u v ≡ r
+unfolding turning turningFrom
+asked-either i u v k r c e x y = passing-true (inContact i u v) 11 _ c ∙ rw e (go (eqb k 0 || eqb k 3))
   where
-    go : (b : Bool) → turnFrom b i u v k ≡ r
+    go : (b : Bool) → turningFrom b i u v k ≡ r
     go true = x
     go false = y
 
 -- THE TURNED JOB TURNED AGAIN is the job, drawn, in either order of the numbers
-pub turn-again : (j : Job) (a b m : ℕ) (T : Turn j a b m) → (turn (turned j a b m) a b ≡ drawn j) × (turn (turned j a b m) b a ≡ drawn j)
+turning-again : (j : Job) (a b m : ℕ) (T : Turn j a b m) → (turning (turned j a b m) a b ≡ reads j) × (turning (turned j a b m) b a ≡ reads j)
 unfolding inContact
-turn-again j a b m T = rw (next-is j a b m T) (
-  asked-either (next j a b m T) a b (t j a b m T) (drawn j)
+turning-again j a b m T = rw (next-is j a b m T) (
+  asked-either (next j a b m T) a b (t j a b m T) (reads j)
       (and-both _ _ (and-both _ _ (room-next j a b m T a (T .room-a)) (room-next j a b m T b (T .room-b)))
       (mem-names (starOf (next j a b m T) a) b (t j a b m T) (rw (star-a j a b m T) (T .swing-a .here))))
       (rw (star-a j a b m T) (T .swing-a .kind)) (at-a j a b m T) (rw (t-o j a b m T) (at-b j a b m T)),
-  asked-either (next j a b m T) b a (o j a b m T) (drawn j)
+  asked-either (next j a b m T) b a (o j a b m T) (reads j)
       (and-both _ _ (and-both _ _ (room-next j a b m T b (T .room-b)) (room-next j a b m T a (T .room-a)))
       (mem-names (starOf (next j a b m T) b) a (o j a b m T) (rw (star-b j a b m T) (T .swing-b .here))))
       (rw (star-b j a b m T) (T .swing-b .kind)) (at-b j a b m T) (rw (o-t j a b m T) (at-a j a b m T)),
 )
+
+pub turn-again : (j : Job) (a b m : ℕ) (T : Turn j a b m) → (turn (turned j a b m) a b ≡ drawn j) × (turn (turned j a b m) b a ≡ drawn j)
+unfolding turn drawRead
+turn-again j a b m T = let (x, y) = turning-again j a b m T in (ap drawRead x, ap drawRead y)
 
 -- WHAT A TURN KEEPS: tests 4 to 6, as many rooms and pairs, and who is joined
 pub record Kept (j i : Job) : Type 0 where

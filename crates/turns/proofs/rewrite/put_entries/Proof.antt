@@ -6,8 +6,8 @@ use Rattle.turns.proofs.rewrite.put_entries.Tie as tie
 start-of-requires : tie.Need-start-of-requires
 start-of-requires c κs = search needs
 
-entries-of-requires : tie.Need-entries-of-requires
-entries-of-requires c κs = search needs
+star-length-requires : tie.Need-star-length-requires
+star-length-requires c κs = search needs
 
 shift-of-requires : tie.Need-shift-of-requires
 shift-of-requires c κs = search needs
@@ -33,7 +33,7 @@ add-put-part-2 c = search needs
 put-part-requires-2 : tie.Need-put-part-requires-2
 put-part-requires-2 c κs = let part = c .before .before .before in
     let shift = part .before .before in (
-      room-second _ _ _ _ _ _ (shift .before .entries-of .ensures .0) _ _ _ (shift .shift-of .ensures .1) (part .put-part .kept .0)
+      room-second _ _ _ _ _ _ (shift .before .star-length .ensures .0) _ _ _ (shift .shift-of .ensures .1) (part .put-part .kept .0)
           (shift .before .before .before .before .before .before .before .pre),
       search needs,
     )
@@ -45,7 +45,7 @@ returns : tie.Need-returns
 returns c = let second = c .before .before in
     let first = second .before .before .before .before in
     let shift = first .before .before in
-    both-parts _ _ _ _ _ _ (shift .before .entries-of .ensures .0) _ _ _ _ _ _ _ (shift .before .before .start-of .ensures .0) (shift .shift-of .ensures .0)
+    both-parts _ _ _ _ _ _ (shift .before .star-length .ensures .0) _ _ _ _ _ _ _ (shift .before .before .start-of .ensures .0) (shift .shift-of .ensures .0)
     (shift .shift-of .ensures .1) (first .put-part .ensures) (second .put-part2 .ensures)
 
 pub put-entries-spec : {M : Type 1} → statement M
@@ -53,7 +53,7 @@ put-entries-spec =
     tie.close
     (tie.spec
     start-of-requires
-    entries-of-requires
+    star-length-requires
     shift-of-requires
     add-put-part
     sub-put-part

@@ -21,8 +21,8 @@ abbrev μ-loop : tie.MeasureT-loop
 loop-holds : tie.Need-loop-holds Inv-loop μ-loop
 loop-holds c = (search needs, rw sub-zero)
 
-entries-of-requires : tie.Need-entries-of-requires Inv-loop μ-loop
-entries-of-requires c κs = search needs
+star-length-requires : tie.Need-star-length-requires Inv-loop μ-loop
+star-length-requires c κs = search needs
 
 mul-at : tie.Need-mul-at Inv-loop μ-loop
 mul-at c = search needs
@@ -52,7 +52,7 @@ value-place-spec =
     Inv-loop
     μ-loop
     loop-holds
-    entries-of-requires
+    star-length-requires
     mul-at
     add-at
     add-at-2
