@@ -1,0 +1,89 @@
+//! The board: holds at most one job with its plan. A refusal leaves it, and the caller's buffer, as they were.
+
+use crate::drawing::{draw, share_wall, Plan, Rectangle};
+use crate::job::{read, Job};
+use crate::turning::turned;
+use crate::{refusal, Refusal};
+
+#[derive(Clone, Debug, Default, PartialEq, Eq)]
+pub struct Board {
+    held: Option<Held>,
+}
+
+#[derive(Clone, Debug, PartialEq, Eq)]
+struct Held {
+    job: Job,
+    plan: Plan,
+}
+
+/// Width and height.
+pub type Sheet = (usize, usize);
+
+impl Board {
+    pub fn empty() -> Self {
+        Board::default()
+    }
+
+    /// Tests 1 to 9, each over the entire job before the next.
+    pub fn load(&mut self, bytes: &[u8]) -> Result<Sheet, Refusal> {
+        let job = read(bytes)?;
+        self.hold(job)
+    }
+
+    /// 10, 11, 12, then 7, 8, 9 of the turned labelling.
+    pub fn turn(&mut self, one: usize, other: usize) -> Result<Sheet, Refusal> {
+        let job = turned(&self.held()?.job, one, other)?;
+        self.hold(job)
+    }
+
+    pub fn rectangle(&self, vertex: usize) -> Result<Rectangle, Refusal> {
+        let plan = &self.held()?.plan;
+        plan.rectangles
+            .get(vertex)
+            .copied()
+            .ok_or(refusal::NO_SUCH_VERTEX)
+    }
+
+    /// Whether two vertices share a wall length of at least 1; one vertex asked twice does not.
+    pub fn share(&self, one: usize, other: usize) -> Result<bool, Refusal> {
+        let (a, b) = (self.rectangle(one)?, self.rectangle(other)?);
+        Ok(one != other && share_wall(&a, &b))
+    }
+
+    pub fn write_job(&self, buffer: &mut [u8]) -> Result<usize, Refusal> {
+        write(&self.held()?.job.bytes(), buffer)
+    }
+
+    pub fn write_plan(&self, buffer: &mut [u8]) -> Result<usize, Refusal> {
+        write(&self.held()?.plan.bytes(), buffer)
+    }
+
+    pub fn job(&self) -> Option<&Job> {
+        self.held.as_ref().map(|held| &held.job)
+    }
+
+    pub fn plan(&self) -> Option<&Plan> {
+        self.held.as_ref().map(|held| &held.plan)
+    }
+
+    fn held(&self) -> Result<&Held, Refusal> {
+        self.held.as_ref().ok_or(refusal::NO_PLAN)
+    }
+
+    /// Nothing is held before the last test has passed.
+    fn hold(&mut self, job: Job) -> Result<Sheet, Refusal> {
+        let plan = draw(&job)?;
+        let sheet = (plan.width, plan.height);
+        self.held = Some(Held { job, plan });
+        Ok(sheet)
+    }
+}
+
+/// Fills the front of the buffer and touches nothing behind it.
+fn write(bytes: &[u8], buffer: &mut [u8]) -> Result<usize, Refusal> {
+    let front = buffer
+        .get_mut(..bytes.len())
+        .ok_or(refusal::BUFFER_TOO_SHORT)?;
+    front.copy_from_slice(bytes);
+    Ok(bytes.len())
+}

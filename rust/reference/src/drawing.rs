@@ -1,0 +1,183 @@
+//! Rectangles from wall numbers, and the drawing test, item by item.
+
+use crate::fields::put_field;
+use crate::job::{Entry, Job};
+use crate::walls::{number_walls, WallNumbers};
+use crate::{refusal, Refusal, ABOVE, BELOW, EAST, FIRST_ROOM, LEFT, NORTH, SOUTH, WEST};
+
+const TAG_SHEET: u8 = 3;
+const TAG_RECTANGLE: u8 = 4;
+const LARGEST_SHEET: usize = 64;
+
+#[derive(Clone, Copy, Debug, PartialEq, Eq)]
+pub struct Rectangle {
+    pub x1: usize,
+    pub y1: usize,
+    pub x2: usize,
+    pub y2: usize,
+}
+
+#[derive(Clone, Debug, PartialEq, Eq)]
+pub struct Plan {
+    pub width: usize,
+    pub height: usize,
+    /// In vertex order.
+    pub rectangles: Vec<Rectangle>,
+}
+
+/// Which items of the drawing test fail; several may at once.
+#[derive(Clone, Copy, Debug, Default, PartialEq, Eq)]
+pub struct Faults {
+    pub outside: bool,
+    pub overlap: bool,
+    pub area: bool,
+    pub unjoined: bool,
+    pub corner: bool,
+    pub order: bool,
+}
+
+impl Faults {
+    pub fn any(&self) -> bool {
+        *self != Faults::default()
+    }
+}
+
+/// Tests 7, 8 and 9 of any stars that have passed the earlier ones.
+pub fn draw(job: &Job) -> Result<Plan, Refusal> {
+    let plan = place(job, &number_walls(job)?);
+    if plan.width > LARGEST_SHEET || plan.height > LARGEST_SHEET {
+        return Err(refusal::SHEET_TOO_LARGE);
+    }
+    if faults(job, &plan).any() {
+        return Err(refusal::UNDRAWABLE);
+    }
+    Ok(plan)
+}
+
+/// The rectangles, frame included, of numbered walls.
+pub fn place(job: &Job, walls: &WallNumbers) -> Plan {
+    let width = walls.left_of_east + 1;
+    let height = walls.bottom_of_north + 1;
+    let mut rectangles: Vec<Rectangle> = (0..FIRST_ROOM)
+        .map(|side| frame_side(side, width, height))
+        .collect();
+    rectangles.extend(job.rooms().map(|room| Rectangle {
+        x1: walls.left[room],
+        y1: walls.lower[room],
+        x2: walls.right[room],
+        y2: walls.upper[room],
+    }));
+    Plan {
+        width,
+        height,
+        rectangles,
+    }
+}
+
+/// W and E stand the full height; N and S lie between them.
+fn frame_side(side: usize, width: usize, height: usize) -> Rectangle {
+    let (x1, y1, x2, y2) = match side {
+        NORTH => (1, height - 1, width - 1, height),
+        WEST => (0, 0, 1, height),
+        SOUTH => (1, 0, width - 1, 1),
+        _ => (width - 1, 0, width, height),
+    };
+    Rectangle { x1, y1, x2, y2 }
+}
+
+/// The drawing test. Every item is looked at, so that a test run can say which of them failed alone.
+pub fn faults(job: &Job, plan: &Plan) -> Faults {
+    let mut found = Faults {
+        outside: plan.rectangles.iter().any(|r| !inside(r, plan)),
+        area: plan.rectangles.iter().map(area).sum::<usize>() != plan.width * plan.height,
+        order: job
+            .rooms()
+            .any(|room| !star_in_order(job.star_of(room), plan)),
+        ..Faults::default()
+    };
+    for (a, one) in plan.rectangles.iter().enumerate() {
+        for (b, other) in plan.rectangles.iter().enumerate().skip(a + 1) {
+            found.overlap |= share_a_cell(one, other);
+            found.corner |= meet_only_at_a_corner(one, other);
+            found.unjoined |= share_wall(one, other) && !job.joins(a, b) && !frame_neighbours(a, b);
+        }
+    }
+    found
+}
+
+fn inside(r: &Rectangle, plan: &Plan) -> bool {
+    r.x1 < r.x2 && r.x2 <= plan.width && r.y1 < r.y2 && r.y2 <= plan.height
+}
+
+fn area(r: &Rectangle) -> usize {
+    r.x2.saturating_sub(r.x1) * r.y2.saturating_sub(r.y1)
+}
+
+/// How far two stretches overlap; noughts where they only touch or lie apart.
+fn overlap(a1: usize, a2: usize, b1: usize, b2: usize) -> usize {
+    a2.min(b2).saturating_sub(a1.max(b1))
+}
+
+fn across(a: &Rectangle, b: &Rectangle) -> usize {
+    overlap(a.x1, a.x2, b.x1, b.x2)
+}
+
+fn upward(a: &Rectangle, b: &Rectangle) -> usize {
+    overlap(a.y1, a.y2, b.y1, b.y2)
+}
+
+fn touch_sideways(a: &Rectangle, b: &Rectangle) -> bool {
+    a.x2 == b.x1 || b.x2 == a.x1
+}
+
+fn touch_up_or_down(a: &Rectangle, b: &Rectangle) -> bool {
+    a.y2 == b.y1 || b.y2 == a.y1
+}
+
+fn share_a_cell(a: &Rectangle, b: &Rectangle) -> bool {
+    across(a, b) >= 1 && upward(a, b) >= 1
+}
+
+/// A common wall length of at least 1.
+pub fn share_wall(a: &Rectangle, b: &Rectangle) -> bool {
+    (touch_sideways(a, b) && upward(a, b) >= 1) || (touch_up_or_down(a, b) && across(a, b) >= 1)
+}
+
+fn meet_only_at_a_corner(a: &Rectangle, b: &Rectangle) -> bool {
+    touch_sideways(a, b) && touch_up_or_down(a, b)
+}
+
+fn frame_neighbours(a: usize, b: usize) -> bool {
+    let pairs = [(NORTH, WEST), (WEST, SOUTH), (SOUTH, EAST), (EAST, NORTH)];
+    pairs.contains(&(a, b)) || pairs.contains(&(b, a))
+}
+
+/// Neighbours of one kind follow each other as the counterclockwise walk meets them.
+fn star_in_order(star: &[Entry], plan: &Plan) -> bool {
+    star.windows(2)
+        .filter(|two| two[0].kind == two[1].kind)
+        .all(|two| {
+            let first = &plan.rectangles[two[0].neighbour];
+            let next = &plan.rectangles[two[1].neighbour];
+            match two[0].kind {
+                ABOVE => first.x1 > next.x1,
+                LEFT => first.y1 > next.y1,
+                BELOW => first.x1 < next.x1,
+                _ => first.y1 < next.y1,
+            }
+        })
+}
+
+impl Plan {
+    pub fn bytes(&self) -> Vec<u8> {
+        let mut out = Vec::new();
+        put_field(&mut out, TAG_SHEET, &[self.width as u8, self.height as u8]);
+        for (vertex, r) in self.rectangles.iter().enumerate() {
+            let numbers = [vertex, r.x1, r.y1, r.x2, r.y2];
+            put_field(&mut out, TAG_RECTANGLE, &numbers.map(|number| number as u8));
+        }
+        out
+    }
+}
+
+const _: () = assert!(EAST + 1 == FIRST_ROOM);

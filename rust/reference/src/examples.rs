@@ -1,0 +1,270 @@
+//! The floor examples of document 01, and a few facts the document states in words.
+
+use crate::drawing::Rectangle;
+use crate::job::{Entry, Job};
+use crate::{star, Board, Refusal};
+
+const P1: &str = "01 00 01 01 02 00 08 00 00 01 01 02 02 03 03";
+const F: &str = "01 00 01 04 02 00 08 00 00 01 01 06 02 05 03 \
+    02 00 0A 00 00 04 01 06 01 07 02 03 03 02 00 0A 04 00 01 01 02 02 07 03 05 03 \
+    02 00 08 05 00 06 01 02 02 03 03";
+
+fn bytes(hex: &str) -> Vec<u8> {
+    hex.split_whitespace()
+        .map(|byte| u8::from_str_radix(byte, 16).unwrap())
+        .collect()
+}
+
+/// Stars written as (neighbour, kind) pairs.
+fn job(stars: &[&[(usize, u8)]]) -> Vec<u8> {
+    let star = |pairs: &&[(usize, u8)]| {
+        pairs
+            .iter()
+            .map(|&(neighbour, kind)| Entry { neighbour, kind })
+            .collect()
+    };
+    Job {
+        stars: stars.iter().map(star).collect(),
+    }
+    .bytes()
+}
+
+fn load(bytes: &[u8]) -> Result<(usize, usize), Refusal> {
+    Board::empty().load(bytes)
+}
+
+fn loaded(bytes: &[u8]) -> Board {
+    let mut board = Board::empty();
+    board.load(bytes).expect("accepted");
+    board
+}
+
+fn at(x1: usize, y1: usize, x2: usize, y2: usize) -> Result<Rectangle, Refusal> {
+    Ok(Rectangle { x1, y1, x2, y2 })
+}
+
+fn row(rooms: usize) -> Vec<u8> {
+    let stars: Vec<Vec<(usize, u8)>> = (4..rooms + 4)
+        .map(|room| {
+            let left = if room == 4 { 1 } else { room - 1 };
+            let right = if room == rooms + 3 { 3 } else { room + 1 };
+            vec![(0, 0), (left, 1), (2, 2), (right, 3)]
+        })
+        .collect();
+    let stars: Vec<&[(usize, u8)]> = stars.iter().map(Vec::as_slice).collect();
+    job(&stars)
+}
+
+#[test]
+fn p1_one_room() {
+    let board = loaded(&bytes(P1));
+    assert_eq!(load(&bytes(P1)), Ok((3, 3)));
+    assert_eq!(board.rectangle(4), at(1, 1, 2, 2));
+}
+
+#[test]
+fn p2_no_rooms() {
+    assert_eq!(load(&bytes("01 00 01 00")), Err(Refusal(2)));
+}
+
+#[test]
+fn p3_empty_input() {
+    assert_eq!(load(&[]), Err(Refusal(1)));
+}
+
+#[test]
+fn p4_one_byte_added() {
+    let mut longer = bytes(P1);
+    longer.push(0);
+    assert_eq!(load(&longer), Err(Refusal(1)));
+}
+
+#[test]
+fn p5_side_by_side() {
+    let board = loaded(&row(2));
+    assert_eq!(load(&row(2)), Ok((4, 3)));
+    assert_eq!(board.rectangle(5), at(2, 1, 3, 2));
+}
+
+#[test]
+fn p6_both_in_one_place() {
+    let alone: &[(usize, u8)] = &[(0, 0), (1, 1), (2, 2), (3, 3)];
+    assert_eq!(load(&job(&[alone, alone])), Err(Refusal(9)));
+}
+
+#[test]
+fn p7_a_circle() {
+    let ring = job(&[
+        &[(0, 0), (6, 1), (2, 2), (5, 3)],
+        &[(0, 0), (4, 1), (2, 2), (6, 3)],
+        &[(0, 0), (5, 1), (2, 2), (4, 3)],
+    ]);
+    assert_eq!(load(&ring), Err(Refusal(7)));
+}
+
+#[test]
+fn p8_the_job_f() {
+    let board = loaded(&bytes(F));
+    assert_eq!(load(&bytes(F)), Ok((4, 5)));
+    let expected = [
+        at(1, 4, 3, 5),
+        at(0, 0, 1, 5),
+        at(1, 0, 3, 1),
+        at(3, 0, 4, 5),
+        at(1, 3, 2, 4),
+        at(2, 2, 3, 4),
+        at(1, 1, 2, 3),
+        at(2, 1, 3, 2),
+    ];
+    for (vertex, rectangle) in expected.into_iter().enumerate() {
+        assert_eq!(board.rectangle(vertex), rectangle);
+    }
+}
+
+#[test]
+fn p9_f_turned_and_turned_back() {
+    let before = loaded(&bytes(F));
+    let mut board = before.clone();
+    assert_eq!(board.turn(5, 6), Ok((5, 4)));
+    assert_eq!(board.rectangle(4), at(1, 2, 2, 3));
+    assert_eq!(board.rectangle(5), at(2, 2, 4, 3));
+    assert_eq!(board.rectangle(6), at(1, 1, 3, 2));
+    assert_eq!(board.rectangle(7), at(3, 1, 4, 2));
+    assert_eq!(board.turn(5, 6), Ok((4, 5)));
+    assert_eq!(board, before);
+    assert_eq!(board.turn(6, 5), Ok((5, 4)));
+}
+
+#[test]
+fn p10_four_at_a_point() {
+    let mut parted = crate::job::read(&bytes(F)).unwrap();
+    parted.star_of_mut(5).retain(|entry| entry.neighbour != 6);
+    parted.star_of_mut(6).retain(|entry| entry.neighbour != 5);
+    assert_eq!(load(&parted.bytes()), Err(Refusal(9)));
+    // Two upright walls have number 2, yet they are two walls.
+    let walls = crate::walls::number_walls(&parted).unwrap();
+    assert_eq!((walls.right[4], walls.right[6]), (2, 2));
+}
+
+#[test]
+fn p11_a_list_too_short() {
+    let mut board = loaded(&bytes(F));
+    let before = board.clone();
+    assert_eq!(board.turn(4, 5), Err(Refusal(12)));
+    assert_eq!(board, before);
+}
+
+#[test]
+fn p12_a_frame_side_is_not_turned() {
+    let mut board = loaded(&bytes(F));
+    for (one, other) in [(4, 0), (0, 4), (4, 4), (4, 7), (4, 8), (300, 4), (0, 1)] {
+        assert_eq!(board.turn(one, other), Err(Refusal(11)));
+    }
+}
+
+#[test]
+fn above_lists_run_from_right_to_left() {
+    let with_first_star = |first: [usize; 2]| {
+        job(&[
+            &[(first[0], 0), (first[1], 0), (1, 1), (2, 2), (3, 3)],
+            &[(0, 0), (1, 1), (4, 2), (6, 3)],
+            &[(0, 0), (5, 1), (4, 2), (3, 3)],
+        ])
+    };
+    assert_eq!(load(&with_first_star([6, 5])), Ok((4, 4)));
+    assert_eq!(load(&with_first_star([5, 6])), Err(Refusal(9)));
+}
+
+#[test]
+fn sixty_rooms_in_a_row_and_one_more() {
+    assert_eq!(load(&row(60)), Ok((62, 3)));
+    assert_eq!(load(&row(61)), Err(Refusal(2)));
+}
+
+#[test]
+fn pairs_are_counted_before_they_are_read() {
+    // Entries that fail test 4, so that the answer tells whether test 3 was passed.
+    let with_pairs = |pairs: usize| {
+        let mut stars = vec![vec![(0usize, 9u8); 6]; 60];
+        stars[0].extend(vec![(0, 9); pairs - 360]);
+        let stars: Vec<&[(usize, u8)]> = stars.iter().map(Vec::as_slice).collect();
+        job(&stars)
+    };
+    assert_eq!(load(&with_pairs(360)), Err(Refusal(4)));
+    assert_eq!(load(&with_pairs(361)), Err(Refusal(3)));
+}
+
+#[test]
+fn room_count_is_judged_before_the_remaining_shape() {
+    assert_eq!(load(&bytes("01 00 01 00 07")), Err(Refusal(2)));
+    assert_eq!(load(&bytes("01 00 01 3D")), Err(Refusal(2)));
+    assert_eq!(load(&bytes("01 00 01 01")), Err(Refusal(1)));
+    assert_eq!(load(&bytes("01 00 02 00 00")), Err(Refusal(1)));
+}
+
+#[test]
+fn an_odd_star_is_refused_and_has_no_stars() {
+    let odd = bytes("01 00 01 01 02 00 03 00 00 01");
+    assert_eq!(load(&odd), Err(Refusal(1)));
+    assert_eq!(star(&odd, 4), &[] as &[u8]);
+}
+
+#[test]
+fn a_refused_load_keeps_the_held_plan() {
+    let mut board = loaded(&bytes(F));
+    let before = board.clone();
+    assert_eq!(board.load(&row(61)), Err(Refusal(2)));
+    assert_eq!(board, before);
+}
+
+#[test]
+fn the_star_question_hands_back_the_very_bytes() {
+    let floor = bytes(F);
+    let answer = star(&floor, 5);
+    assert_eq!(answer, bytes("00 00 04 01 06 01 07 02 03 03"));
+    assert_eq!(answer.as_ptr(), floor[18..].as_ptr());
+    for room in [0, 3, 8, 256 + 5] {
+        assert!(star(&floor, room).is_empty());
+    }
+}
+
+#[test]
+fn questions_and_writing_without_a_plan() {
+    let mut board = Board::empty();
+    let mut buffer = [7u8; 4];
+    assert_eq!(board.turn(0, 0), Err(Refusal(10)));
+    assert_eq!(board.rectangle(99), Err(Refusal(10)));
+    assert_eq!(board.share(99, 99), Err(Refusal(10)));
+    assert_eq!(board.write_job(&mut buffer), Err(Refusal(10)));
+    assert_eq!(board.write_plan(&mut buffer), Err(Refusal(10)));
+    assert_eq!(buffer, [7; 4]);
+}
+
+#[test]
+fn questions_of_f() {
+    let board = loaded(&bytes(F));
+    assert_eq!(board.rectangle(8), Err(Refusal(13)));
+    assert_eq!(board.share(8, 8), Err(Refusal(13)));
+    assert_eq!(board.share(4, 8), Err(Refusal(13)));
+    assert_eq!(board.share(4, 4), Ok(false));
+    assert_eq!(board.share(5, 6), Ok(true));
+    assert_eq!(board.share(4, 7), Ok(false));
+    assert_eq!(board.share(0, 1), Ok(true));
+    assert_eq!(board.share(0, 2), Ok(false));
+}
+
+#[test]
+fn writing_gives_back_the_bytes_and_touches_nothing_behind() {
+    let floor = bytes(F);
+    let board = loaded(&floor);
+    let mut buffer = vec![0xAA; floor.len() + 2];
+    assert_eq!(board.write_job(&mut buffer), Ok(floor.len()));
+    assert_eq!(buffer[..floor.len()], floor);
+    assert_eq!(buffer[floor.len()..], [0xAA, 0xAA]);
+    let mut short = vec![0xAA; floor.len() - 1];
+    assert_eq!(board.write_job(&mut short), Err(Refusal(14)));
+    assert!(short.iter().all(|&byte| byte == 0xAA));
+    let mut plan = vec![0xAA; 5 + 8 * 8];
+    assert_eq!(board.write_plan(&mut plan), Ok(69));
+    assert_eq!(plan[..13], bytes("03 00 02 04 05 04 00 05 00 01 04 03 05"));
+}

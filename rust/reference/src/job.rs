@@ -1,0 +1,183 @@
+//! A job: its bytes, and tests 1 to 6, which look at nothing but the stars.
+
+use crate::fields::{put_field, Reader};
+use crate::{opposite, refusal, Refusal, EAST, FIRST_ROOM};
+
+const TAG_ROOM_COUNT: u8 = 1;
+const TAG_STAR: u8 = 2;
+const MOST_ROOMS: usize = 60;
+const MOST_PAIRS: usize = 360;
+
+/// One pair of a star.
+#[derive(Clone, Copy, Debug, PartialEq, Eq)]
+pub struct Entry {
+    pub neighbour: usize,
+    pub kind: u8,
+}
+
+pub type Star = Vec<Entry>;
+
+/// The stars of rooms 4, 5 and so on.
+#[derive(Clone, Debug, PartialEq, Eq)]
+pub struct Job {
+    pub stars: Vec<Star>,
+}
+
+impl Job {
+    pub fn rooms(&self) -> std::ops::Range<usize> {
+        FIRST_ROOM..self.vertices()
+    }
+
+    /// Frame sides and rooms together: one more than the largest vertex number.
+    pub fn vertices(&self) -> usize {
+        FIRST_ROOM + self.stars.len()
+    }
+
+    pub fn is_room(&self, number: usize) -> bool {
+        self.rooms().contains(&number)
+    }
+
+    pub fn star_of(&self, room: usize) -> &Star {
+        &self.stars[room - FIRST_ROOM]
+    }
+
+    pub fn star_of_mut(&mut self, room: usize) -> &mut Star {
+        &mut self.stars[room - FIRST_ROOM]
+    }
+
+    /// The kind with which the room lists the neighbour, if it does.
+    pub fn kind_of(&self, room: usize, neighbour: usize) -> Option<u8> {
+        self.star_of(room)
+            .iter()
+            .find(|entry| entry.neighbour == neighbour)
+            .map(|entry| entry.kind)
+    }
+
+    /// A frame side has no star, so its contacts are read from the rooms' stars.
+    pub fn joins(&self, a: usize, b: usize) -> bool {
+        (self.is_room(a) && self.kind_of(a, b).is_some())
+            || (self.is_room(b) && self.kind_of(b, a).is_some())
+    }
+
+    pub fn pairs(&self) -> usize {
+        self.stars.iter().map(Vec::len).sum()
+    }
+
+    /// The job's bytes. Neighbour numbers must fit one byte.
+    pub fn bytes(&self) -> Vec<u8> {
+        let mut out = Vec::new();
+        put_field(&mut out, TAG_ROOM_COUNT, &[self.stars.len() as u8]);
+        for star in &self.stars {
+            let value: Vec<u8> = star
+                .iter()
+                .flat_map(|entry| [entry.neighbour as u8, entry.kind])
+                .collect();
+            put_field(&mut out, TAG_STAR, &value);
+        }
+        out
+    }
+}
+
+/// Tests 1 and 2: the values of the star fields, each the very bytes of the job.
+pub fn star_values(bytes: &[u8]) -> Result<Vec<&[u8]>, Refusal> {
+    let mut reader = Reader::new(bytes);
+    let count = room_count(&mut reader)?;
+    if count == 0 || count > MOST_ROOMS {
+        return Err(refusal::ROOM_COUNT);
+    }
+    let mut values = Vec::new();
+    for _ in 0..count {
+        values.push(star_value(&mut reader)?);
+    }
+    if !reader.at_end() {
+        return Err(refusal::BYTES);
+    }
+    Ok(values)
+}
+
+fn room_count(reader: &mut Reader) -> Result<usize, Refusal> {
+    let field = reader.next_field().ok_or(refusal::BYTES)?;
+    if field.tag != TAG_ROOM_COUNT || field.value.len() != 1 {
+        return Err(refusal::BYTES);
+    }
+    Ok(usize::from(field.value[0]))
+}
+
+fn star_value<'a>(reader: &mut Reader<'a>) -> Result<&'a [u8], Refusal> {
+    let field = reader.next_field().ok_or(refusal::BYTES)?;
+    if field.tag != TAG_STAR || field.value.len() % 2 != 0 {
+        return Err(refusal::BYTES);
+    }
+    Ok(field.value)
+}
+
+/// The star question: the bytes of one room's star, empty where tests 1 or 2 fail or there is no such room.
+pub fn star(bytes: &[u8], room: usize) -> &[u8] {
+    let Ok(values) = star_values(bytes) else {
+        return &[];
+    };
+    room.checked_sub(FIRST_ROOM)
+        .and_then(|place| values.get(place).copied())
+        .unwrap_or(&[])
+}
+
+/// Tests 1 to 6, each over the entire job before the next.
+pub fn read(bytes: &[u8]) -> Result<Job, Refusal> {
+    let values = star_values(bytes)?;
+    let job = Job {
+        stars: values.into_iter().map(entries).collect(),
+    };
+    if job.pairs() > MOST_PAIRS {
+        return Err(refusal::PAIR_COUNT);
+    }
+    if !job.rooms().all(|room| entries_are_fit(&job, room)) {
+        return Err(refusal::BAD_ENTRY);
+    }
+    if !job.stars.iter().all(|star| star_is_fit(star)) {
+        return Err(refusal::BAD_STAR);
+    }
+    if !job.rooms().all(|room| neighbours_agree(&job, room)) {
+        return Err(refusal::CONTRADICTION);
+    }
+    Ok(job)
+}
+
+fn entries(value: &[u8]) -> Star {
+    value
+        .chunks_exact(2)
+        .map(|pair| Entry {
+            neighbour: usize::from(pair[0]),
+            kind: pair[1],
+        })
+        .collect()
+}
+
+/// Test 4, one room.
+fn entries_are_fit(job: &Job, room: usize) -> bool {
+    job.star_of(room).iter().all(|entry| {
+        let known = entry.neighbour < job.vertices() && entry.neighbour != room;
+        // A frame side's number is the number of its one allowed kind.
+        let frame_fits = entry.neighbour > EAST || usize::from(entry.kind) == entry.neighbour;
+        known && entry.kind <= 3 && frame_fits
+    })
+}
+
+/// Test 5, one star.
+fn star_is_fit(star: &Star) -> bool {
+    let never_falls = star.windows(2).all(|two| two[0].kind <= two[1].kind);
+    let each_kind = (0..4).all(|kind| star.iter().any(|entry| entry.kind == kind));
+    let nobody_twice = star.iter().enumerate().all(|(place, entry)| {
+        star[..place]
+            .iter()
+            .all(|earlier| earlier.neighbour != entry.neighbour)
+    });
+    never_falls && each_kind && nobody_twice
+}
+
+/// Test 6, one room.
+fn neighbours_agree(job: &Job, room: usize) -> bool {
+    job.star_of(room)
+        .iter()
+        .filter(|entry| job.is_room(entry.neighbour))
+        .all(|entry| job.kind_of(entry.neighbour, room) == Some(opposite(entry.kind)))
+}
