@@ -1,1 +1,166 @@
-fn main() {}
+//! Puts many jobs and calls to the reference and to the built programs `calls` and `listing`, and compares every line.
+
+mod chance;
+mod damage;
+mod floors;
+mod planner;
+mod programs;
+mod proofread;
+mod shrink;
+mod slips;
+mod streams;
+mod table;
+#[cfg(test)]
+mod tests;
+
+use chance::Chance;
+use planner::{hex, listing_text};
+use programs::UnderTest;
+use reference::Board;
+use shrink::{both_texts, first_difference, Shrinker};
+use std::process::ExitCode;
+use std::time::Instant;
+use streams::{make_stream, Budget};
+use table::Table;
+
+const USAGE: &str = "differ [--short | --long] [--seed N] [--jobs N] [--calls N] [--listings N] \
+    [--runner PATH] [--slip NAME]";
+
+struct Options {
+    seed: u64,
+    jobs: usize,
+    calls: usize,
+    listings: usize,
+    under_test: UnderTest,
+}
+
+fn main() -> ExitCode {
+    let Some(options) = read_options() else {
+        eprintln!("usage: {USAGE}");
+        return ExitCode::from(2);
+    };
+    let begun = Instant::now();
+    println!(
+        "seed {}, {} jobs, {} other calls, {} listings",
+        options.seed, options.jobs, options.calls, options.listings
+    );
+    let mut table = Table::default();
+    let same = compare_calls(&options, &mut table) && compare_listings(&options, &mut table);
+    table.print();
+    println!(
+        "{} cases in {:.1} seconds",
+        table.cases() + table.listings.values().sum::<u64>(),
+        begun.elapsed().as_secs_f64()
+    );
+    if same {
+        println!("no difference");
+        ExitCode::SUCCESS
+    } else {
+        println!("DIFFERENT");
+        ExitCode::FAILURE
+    }
+}
+
+fn read_options() -> Option<Options> {
+    let mut options = Options {
+        seed: 1,
+        jobs: 20_000,
+        calls: 50_000,
+        listings: 300,
+        under_test: UnderTest::Runner("../bin/run".to_string()),
+    };
+    let mut words = std::env::args().skip(1);
+    while let Some(word) = words.next() {
+        match word.as_str() {
+            "--short" => {}
+            "--long" => {
+                (options.jobs, options.calls, options.listings) = (400_000, 600_000, 3_000);
+            }
+            "--seed" => options.seed = words.next()?.parse().ok()?,
+            "--jobs" => options.jobs = words.next()?.parse().ok()?,
+            "--calls" => options.calls = words.next()?.parse().ok()?,
+            "--listings" => options.listings = words.next()?.parse().ok()?,
+            "--runner" => options.under_test = UnderTest::Runner(words.next()?),
+            "--slip" => {
+                let name = words.next()?;
+                let slip = slips::ALL.iter().find(|slip| format!("{slip:?}") == name)?;
+                options.under_test = UnderTest::Slipped(*slip);
+            }
+            _ => return None,
+        }
+    }
+    Some(options)
+}
+
+/// Stream after stream until all jobs and calls are made; the first difference ends it.
+fn compare_calls(options: &Options, table: &mut Table) -> bool {
+    let mut chance = Chance::new(options.seed);
+    let mut budget = Budget {
+        jobs: options.jobs,
+        calls: options.calls,
+    };
+    while !budget.is_empty() {
+        // Each stream has its own seed, so that what one stream uses up does not move the next.
+        let mut own = Chance::new(chance.next());
+        let stream = make_stream(&mut own, &mut budget, table);
+        let found = options.under_test.calls(&stream.pieces.concat());
+        if found != stream.expected {
+            show_stream_difference(options, stream.pieces);
+            return false;
+        }
+    }
+    true
+}
+
+fn show_stream_difference(options: &Options, pieces: Vec<Vec<u8>>) {
+    println!("difference in a stream of {} calls", pieces.len());
+    let small = Shrinker::new(&options.under_test).shrink(pieces);
+    let (expected, found) = both_texts(&options.under_test, &small);
+    println!("shrunk to {} calls, one a line:", small.len());
+    for piece in &small {
+        println!("  {}", hex(piece));
+    }
+    let line = first_difference(&expected, &found);
+    println!("first differing line: {}", line + 1);
+    println!(
+        "  reference: {}",
+        expected.lines().nth(line).unwrap_or("(nothing)")
+    );
+    println!(
+        "  program:   {}",
+        found.lines().nth(line).unwrap_or("(nothing)")
+    );
+}
+
+/// One process a job, so only a sample, with lengths about the listing program's limit among them.
+fn compare_listings(options: &Options, table: &mut Table) -> bool {
+    let mut chance = Chance::new(options.seed ^ 0x6C69_7374);
+    for round in 0..options.listings {
+        let job = listing_job(&mut chance, round);
+        let expected = listing_text(&mut Board::empty(), &job);
+        let found = options.under_test.listing(&job);
+        table.count_listing(&expected);
+        if expected != found {
+            println!("difference in a listing of {} bytes:", job.len());
+            println!("  {}", hex(&job));
+            println!("reference:\n{expected}program:\n{found}");
+            return false;
+        }
+    }
+    true
+}
+
+fn listing_job(chance: &mut Chance, round: usize) -> Vec<u8> {
+    const LENGTHS: [usize; 9] = [
+        8_190, 8_191, 8_192, 8_193, 8_194, 9_000, 16_384, 65_536, 300_000,
+    ];
+    let mut job = if chance.percent(50) {
+        damage::finished_floor(chance).bytes()
+    } else {
+        damage::any_job(chance)
+    };
+    if round % 5 == 0 {
+        job.resize(LENGTHS[round / 5 % LENGTHS.len()], chance.byte());
+    }
+    job
+}

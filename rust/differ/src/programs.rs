@@ -1,0 +1,79 @@
+//! The planner under test: the built programs, or, to try the comparison itself, a planner with a known slip.
+
+use crate::planner::{calls_text, listing_text};
+use crate::slips::{Slip, SlippedBoard};
+use std::io::{Read, Write};
+use std::process::{Child, Command, Stdio};
+use std::sync::mpsc;
+use std::time::Duration;
+
+const PATIENCE: Duration = Duration::from_secs(300);
+
+pub enum UnderTest {
+    /// A command that takes a program's name and runs it.
+    Runner(String),
+    Slipped(Slip),
+}
+
+impl UnderTest {
+    pub fn calls(&self, stream: &[u8]) -> String {
+        match self {
+            UnderTest::Runner(path) => run(path, "calls", stream),
+            UnderTest::Slipped(slip) => calls_text(&mut SlippedBoard::empty(*slip), stream),
+        }
+    }
+
+    pub fn listing(&self, job: &[u8]) -> String {
+        match self {
+            UnderTest::Runner(path) => run(path, "listing", job),
+            UnderTest::Slipped(slip) => listing_text(&mut SlippedBoard::empty(*slip), job),
+        }
+    }
+}
+
+/// What the program prints. A bad end or no end is made visible as a last line that no program prints.
+fn run(runner: &str, program: &str, input: &[u8]) -> String {
+    let child = Command::new(runner)
+        .arg(program)
+        .stdin(Stdio::piped())
+        .stdout(Stdio::piped())
+        .spawn();
+    match child {
+        Ok(child) => talk(child, input),
+        Err(error) => {
+            eprintln!("cannot run {runner} {program}: {error}");
+            std::process::exit(2);
+        }
+    }
+}
+
+fn talk(mut child: Child, input: &[u8]) -> String {
+    let mut stdin = child.stdin.take().expect("standard input is a pipe");
+    let mut stdout = child.stdout.take().expect("standard output is a pipe");
+    let input = input.to_vec();
+    // A program may stop reading early, as at a broken stream; what it then leaves unread is no fault.
+    let writer = std::thread::spawn(move || drop(stdin.write_all(&input)));
+    let (sender, receiver) = mpsc::channel();
+    let reader = std::thread::spawn(move || {
+        let mut bytes = Vec::new();
+        let read = stdout.read_to_end(&mut bytes).is_ok();
+        drop(sender.send((bytes, read)));
+    });
+    let answer = receiver.recv_timeout(PATIENCE);
+    if answer.is_err() {
+        drop(child.kill());
+    }
+    let status = child.wait();
+    drop(writer.join());
+    drop(reader.join());
+    let Ok((bytes, true)) = answer else {
+        return "(no end within the time allowed)\n".to_string();
+    };
+    let mut text = String::from_utf8_lossy(&bytes).into_owned();
+    match status {
+        Ok(status) if status.success() => {}
+        Ok(status) => text.push_str(&format!("(ended with {status})\n")),
+        Err(error) => text.push_str(&format!("(ended with {error})\n")),
+    }
+    text
+}

@@ -1,0 +1,96 @@
+//! Demand 3 held against the reference itself, cell by cell, so that a comparison with it means something.
+
+use reference::drawing::{share_wall, Plan};
+use reference::job::{Entry, Job};
+use reference::{ABOVE, BELOW, EAST, LEFT, NORTH, SOUTH, WEST};
+
+/// What is wrong with a held plan, if anything is.
+pub fn plan_fault(job: &Job, plan: &Plan) -> Option<&'static str> {
+    let Some(cells) = painted(plan) else {
+        return Some("a cell lies in two rectangles, or a rectangle outside the sheet");
+    };
+    if cells.iter().any(Option::is_none) {
+        return Some("a cell lies in no rectangle");
+    }
+    if four_at_a_point(plan, &cells) {
+        return Some("four rectangles meet at a point");
+    }
+    if !contacts_are_walls(job, plan) {
+        return Some("contacts and shared walls are not the same");
+    }
+    if !job
+        .rooms()
+        .all(|room| stands_round(plan, room, job.star_of(room)))
+    {
+        return Some("neighbours do not stand round a room in its star's order");
+    }
+    None
+}
+
+/// Which rectangle covers each cell; nothing if two do.
+fn painted(plan: &Plan) -> Option<Vec<Option<usize>>> {
+    let mut cells = vec![None; plan.width * plan.height];
+    for (vertex, r) in plan.rectangles.iter().enumerate() {
+        for y in r.y1..r.y2 {
+            for x in r.x1..r.x2 {
+                if x >= plan.width || y >= plan.height || cells[y * plan.width + x].is_some() {
+                    return None;
+                }
+                cells[y * plan.width + x] = Some(vertex);
+            }
+        }
+    }
+    Some(cells)
+}
+
+fn four_at_a_point(plan: &Plan, cells: &[Option<usize>]) -> bool {
+    let cell = |x: usize, y: usize| cells[y * plan.width + x];
+    (1..plan.height).any(|y| {
+        (1..plan.width).any(|x| {
+            let mut round = [
+                cell(x - 1, y - 1),
+                cell(x, y - 1),
+                cell(x - 1, y),
+                cell(x, y),
+            ];
+            round.sort_unstable();
+            round.windows(2).all(|two| two[0] != two[1])
+        })
+    })
+}
+
+fn contacts_are_walls(job: &Job, plan: &Plan) -> bool {
+    let frame = [(NORTH, WEST), (WEST, SOUTH), (SOUTH, EAST), (NORTH, EAST)];
+    (0..job.vertices()).all(|a| {
+        (a + 1..job.vertices()).all(|b| {
+            let wanted = job.joins(a, b) || frame.contains(&(a, b));
+            wanted == share_wall(&plan.rectangles[a], &plan.rectangles[b])
+        })
+    })
+}
+
+/// Each neighbour on the side its kind says, and the walk round the room meets them in the star's order.
+fn stands_round(plan: &Plan, room: usize, star: &[Entry]) -> bool {
+    let r = &plan.rectangles[room];
+    let on_its_side = star.iter().all(|entry| {
+        let o = &plan.rectangles[entry.neighbour];
+        match entry.kind {
+            ABOVE => o.y1 == r.y2,
+            LEFT => o.x2 == r.x1,
+            BELOW => o.y2 == r.y1,
+            _ => o.x1 == r.x2,
+        }
+    });
+    let in_order = star.windows(2).all(|two| {
+        let first = &plan.rectangles[two[0].neighbour];
+        let next = &plan.rectangles[two[1].neighbour];
+        match (two[0].kind, two[1].kind) {
+            (a, b) if a != b => a < b,
+            (ABOVE, _) => next.x2 <= first.x1,
+            (LEFT, _) => next.y2 <= first.y1,
+            (BELOW, _) => first.x2 <= next.x1,
+            _ => first.y2 <= next.y1,
+        }
+    });
+    on_its_side && in_order
+}

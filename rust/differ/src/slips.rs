@@ -1,0 +1,280 @@
+//! Planners with one known slip each. A comparison that lets one of them pass would show little.
+
+use crate::planner::Planner;
+use reference::drawing::{draw, faults, place, share_wall, Faults, Plan, Rectangle};
+use reference::job::{read, Job};
+use reference::turning::turned;
+use reference::walls::{number_walls, WallNumbers};
+use reference::{Board, Refusal, ABOVE, FIRST_ROOM, RIGHT};
+
+#[derive(Clone, Copy, Debug, PartialEq, Eq)]
+pub enum Slip {
+    /// Walls numbered from rooms and joins only, without the contact rules.
+    RoomsOnly,
+    /// The area sum trusted alone: an overlap and a gap of one size cancel.
+    AreaAlone,
+    /// An item of the drawing test left out.
+    NoArea,
+    NoUnjoined,
+    NoCorner,
+    NoOrder,
+    /// Above-lists read left to right.
+    AboveLeftToRight,
+    /// A refused load empties the board.
+    RefusalEmpties,
+    /// The first plan is kept for ever.
+    FirstPlanKept,
+    /// A turn reports done and keeps the old board.
+    TurnKeeps,
+    /// Every turn is refused.
+    TurnRefuses,
+    /// A frame side named in a turn is answered like a question.
+    TurnAnswers13,
+    /// One vertex asked twice shares a wall with itself.
+    SharesWithItself,
+    /// One vertex asked twice is "no" before its number is looked at.
+    NoBefore13,
+    /// Numbers cut to one byte.
+    OneByteNumbers,
+    /// The buffer behind the bytes is cleared.
+    ClearsBehind,
+    /// A buffer that just fits is refused.
+    WantsOneMore,
+    /// The job as loaded is written, without its turns.
+    WritesOldJob,
+    /// Test 4 is made before test 3.
+    FourBeforeThree,
+    /// A job with n too large and bytes missing is 1.
+    ShapeBeforeCount,
+    /// The star question answers jobs with bytes left over.
+    StarOfLongerJob,
+}
+
+pub const ALL: [Slip; 21] = [
+    Slip::RoomsOnly,
+    Slip::AreaAlone,
+    Slip::NoArea,
+    Slip::NoUnjoined,
+    Slip::NoCorner,
+    Slip::NoOrder,
+    Slip::AboveLeftToRight,
+    Slip::RefusalEmpties,
+    Slip::FirstPlanKept,
+    Slip::TurnKeeps,
+    Slip::TurnRefuses,
+    Slip::TurnAnswers13,
+    Slip::SharesWithItself,
+    Slip::NoBefore13,
+    Slip::OneByteNumbers,
+    Slip::ClearsBehind,
+    Slip::WantsOneMore,
+    Slip::WritesOldJob,
+    Slip::FourBeforeThree,
+    Slip::ShapeBeforeCount,
+    Slip::StarOfLongerJob,
+];
+
+pub struct SlippedBoard {
+    slip: Slip,
+    held: Option<(Job, Plan)>,
+    loaded: Option<Job>,
+}
+
+impl SlippedBoard {
+    pub fn empty(slip: Slip) -> Self {
+        SlippedBoard {
+            slip,
+            held: None,
+            loaded: None,
+        }
+    }
+
+    fn draw(&self, job: &Job) -> Result<Plan, Refusal> {
+        let mut judged = job.clone();
+        if self.slip == Slip::AboveLeftToRight {
+            for star in &mut judged.stars {
+                let above = star.iter().filter(|entry| entry.kind == ABOVE).count();
+                star[..above].reverse();
+            }
+        }
+        let numbers = if self.slip == Slip::RoomsOnly {
+            number_walls(job)?;
+            rooms_only(job)
+        } else {
+            number_walls(&judged)?
+        };
+        let plan = place(&judged, &numbers);
+        if self.without_item(faults(&judged, &plan)).any() {
+            return Err(Refusal(9));
+        }
+        Ok(plan)
+    }
+
+    fn without_item(&self, mut found: Faults) -> Faults {
+        match self.slip {
+            Slip::AreaAlone => found.overlap = false,
+            Slip::NoArea => found.area = false,
+            Slip::NoUnjoined => found.unjoined = false,
+            Slip::NoCorner => found.corner = false,
+            Slip::NoOrder => found.order = false,
+            _ => {}
+        }
+        found
+    }
+
+    fn number(&self, number: usize) -> usize {
+        if self.slip == Slip::OneByteNumbers {
+            number % 256
+        } else {
+            number
+        }
+    }
+
+    fn held(&self) -> Result<&(Job, Plan), Refusal> {
+        self.held.as_ref().ok_or(Refusal(10))
+    }
+
+    fn judge(&self, bytes: &[u8]) -> Result<(Job, Plan), Refusal> {
+        let counted = bytes.len() >= 4 && bytes[..3] == [1, 0, 1];
+        if self.slip == Slip::ShapeBeforeCount && counted && bytes[3] > 60 {
+            let mut bytes_of_sixty = bytes.to_vec();
+            bytes_of_sixty[3] = 60;
+            if reference::job::star_values(&bytes_of_sixty).is_err() {
+                return Err(Refusal(1));
+            }
+        }
+        let job = match read(bytes) {
+            Err(Refusal(3)) if self.slip == Slip::FourBeforeThree => return Err(Refusal(4)),
+            other => other?,
+        };
+        let plan = self.draw(&job)?;
+        Ok((job, plan))
+    }
+
+    fn write(&self, bytes: Vec<u8>, buffer: &mut [u8]) -> Result<usize, Refusal> {
+        let wanted = bytes.len() + usize::from(self.slip == Slip::WantsOneMore);
+        if buffer.len() < wanted {
+            return Err(Refusal(14));
+        }
+        buffer[..bytes.len()].copy_from_slice(&bytes);
+        if self.slip == Slip::ClearsBehind {
+            buffer[bytes.len()..].fill(0);
+        }
+        Ok(bytes.len())
+    }
+}
+
+/// Sides pushed up until every join and every room is content.
+fn rooms_only(job: &Job) -> WallNumbers {
+    let count = job.vertices();
+    let mut near = [vec![1; count], vec![1; count]];
+    let mut far = [vec![1; count], vec![1; count]];
+    for _ in 0..4 * count {
+        for room in job.rooms() {
+            for (axis, (joining, frame_kind)) in [(RIGHT, 1), (ABOVE, 2)].into_iter().enumerate() {
+                for entry in job.star_of(room) {
+                    let other = entry.neighbour;
+                    if entry.kind == joining {
+                        let most = far[axis][room].max(near[axis][other]);
+                        far[axis][room] = most;
+                        near[axis][other] = most;
+                    } else if entry.kind == frame_kind && other < FIRST_ROOM {
+                        near[axis][room] = near[axis][room].max(1);
+                    }
+                }
+                far[axis][room] = far[axis][room].max(near[axis][room] + 1);
+            }
+        }
+    }
+    let [left, lower] = near;
+    let [right, upper] = far;
+    WallNumbers {
+        left_of_east: left[3],
+        bottom_of_north: lower[0],
+        left,
+        right,
+        lower,
+        upper,
+    }
+}
+
+impl Planner for SlippedBoard {
+    fn load(&mut self, bytes: &[u8]) -> Result<(usize, usize), Refusal> {
+        let judged = self.judge(bytes);
+        if judged.is_err() && self.slip == Slip::RefusalEmpties {
+            self.held = None;
+        }
+        let (job, plan) = judged?;
+        let sheet = (plan.width, plan.height);
+        if self.held.is_none() || self.slip != Slip::FirstPlanKept {
+            self.loaded = Some(job.clone());
+            self.held = Some((job, plan));
+        }
+        Ok(sheet)
+    }
+
+    fn turn(&mut self, one: usize, other: usize) -> Result<(usize, usize), Refusal> {
+        let (one, other) = (self.number(one), self.number(other));
+        let (job, _) = self.held()?;
+        if self.slip == Slip::TurnAnswers13 && one.max(other) >= job.vertices() {
+            return Err(Refusal(13));
+        }
+        let job = turned(job, one, other)?;
+        if self.slip == Slip::TurnRefuses {
+            return Err(Refusal(12));
+        }
+        let plan = draw(&job)?;
+        let sheet = (plan.width, plan.height);
+        if self.slip != Slip::TurnKeeps {
+            self.held = Some((job, plan));
+        }
+        Ok(sheet)
+    }
+
+    fn rectangle(&self, vertex: usize) -> Result<Rectangle, Refusal> {
+        let (_, plan) = self.held()?;
+        let found = plan.rectangles.get(self.number(vertex)).copied();
+        found.ok_or(Refusal(13))
+    }
+
+    fn share(&self, one: usize, other: usize) -> Result<bool, Refusal> {
+        self.held()?;
+        if one == other && self.slip == Slip::NoBefore13 {
+            return Ok(false);
+        }
+        let (a, b) = (self.rectangle(one)?, self.rectangle(other)?);
+        if one == other && self.slip == Slip::SharesWithItself {
+            return Ok(true);
+        }
+        Ok(self.number(one) != self.number(other) && share_wall(&a, &b))
+    }
+
+    fn write_job(&self, buffer: &mut [u8]) -> Result<usize, Refusal> {
+        let (job, _) = self.held()?;
+        match &self.loaded {
+            Some(loaded) if self.slip == Slip::WritesOldJob => self.write(loaded.bytes(), buffer),
+            _ => self.write(job.bytes(), buffer),
+        }
+    }
+
+    fn write_plan(&self, buffer: &mut [u8]) -> Result<usize, Refusal> {
+        let (_, plan) = self.held()?;
+        self.write(plan.bytes(), buffer)
+    }
+
+    fn star<'a>(&self, bytes: &'a [u8], room: usize) -> &'a [u8] {
+        let mut shorter = bytes;
+        while self.slip == Slip::StarOfLongerJob && shorter.len() > 4 {
+            if reference::job::star_values(shorter).is_ok() {
+                break;
+            }
+            shorter = &shorter[..shorter.len() - 1];
+        }
+        let found = Board::empty().star(shorter, self.number(room));
+        if found.is_empty() {
+            Board::empty().star(bytes, self.number(room))
+        } else {
+            found
+        }
+    }
+}

@@ -1,0 +1,320 @@
+//! Streams of calls, made while the reference answers them, so that later calls can aim at what is held.
+
+use crate::chance::Chance;
+use crate::damage::any_job;
+use crate::planner::{
+    answer_stream, Outcome, LARGEST_BUFFER, LOAD, RECTANGLE, SHARE, STAR, TURN, WRITE_JOB,
+    WRITE_PLAN,
+};
+use crate::proofread::plan_fault;
+use crate::table::Table;
+use reference::fields::put_field;
+use reference::{drawing, job, walls, Board, FIRST_ROOM};
+
+/// A stream in pieces: whole calls, and at the end perhaps one piece that breaks it.
+pub struct Stream {
+    pub pieces: Vec<Vec<u8>>,
+    pub expected: String,
+}
+
+/// What is still to be made.
+pub struct Budget {
+    pub jobs: usize,
+    pub calls: usize,
+}
+
+impl Budget {
+    pub fn is_empty(&self) -> bool {
+        self.jobs + self.calls == 0
+    }
+
+    /// Jobs and other calls stay mixed to the end.
+    fn take_job(&mut self, chance: &mut Chance) -> bool {
+        let job = chance.below(self.jobs + self.calls) < self.jobs;
+        if job {
+            self.jobs -= 1;
+        } else {
+            self.calls -= 1;
+        }
+        job
+    }
+}
+
+/// Makes one stream and its expected text. A fault of the reference itself ends the run with a message.
+pub fn make_stream(chance: &mut Chance, budget: &mut Budget, table: &mut Table) -> Stream {
+    let length = *chance.pick(&[1, 5, 20, 500, 2_000, 2_000, 4_000]);
+    let mut maker = Maker {
+        board: Board::empty(),
+        last_turn: None,
+        stream: Stream {
+            pieces: Vec::new(),
+            expected: String::new(),
+        },
+    };
+    for _ in 0..length {
+        if budget.is_empty() {
+            break;
+        }
+        let job = budget.take_job(chance);
+        let piece = maker.next_piece(chance, job);
+        maker.put(piece, table);
+    }
+    if chance.percent(40) {
+        let tail = breaking_tail(chance);
+        maker.put(tail, table);
+    }
+    table.streams += 1;
+    maker.stream
+}
+
+struct Maker {
+    board: Board,
+    /// The rooms of an accepted turn just made, and the board before it.
+    last_turn: Option<(Vec<u8>, Board)>,
+    stream: Stream,
+}
+
+impl Maker {
+    fn next_piece(&self, chance: &mut Chance, job: bool) -> Vec<u8> {
+        if job {
+            return if chance.percent(85) {
+                call(LOAD, &any_job(chance))
+            } else {
+                self.star_question(chance)
+            };
+        }
+        match chance.below(100) {
+            0..=49 => self.turn(chance),
+            50..=64 => call(RECTANGLE, &two(self.some_vertex(chance))),
+            65..=84 => self.share(chance),
+            85..=92 => self.writing(chance, WRITE_JOB),
+            _ => self.writing(chance, WRITE_PLAN),
+        }
+    }
+
+    /// Answers the piece, counts the answers, and holds the reference against demand 3.
+    fn put(&mut self, piece: Vec<u8>, table: &mut Table) {
+        let before = self.board.clone();
+        let (answers, broken) = answer_stream(&mut self.board, &piece);
+        for answer in &answers {
+            table.count(answer.tag, answer.outcome);
+            self.stream.expected.push_str(&answer.line);
+            self.stream.expected.push('\n');
+        }
+        if let [answer] = answers.as_slice() {
+            self.check(answer.tag, answer.outcome, before, &piece, table);
+        }
+        if broken {
+            self.stream.expected.push_str("broken stream\n");
+            table.broken_streams += 1;
+        }
+        self.stream.pieces.push(piece);
+    }
+
+    fn check(&mut self, tag: u8, outcome: Outcome, before: Board, piece: &[u8], table: &mut Table) {
+        let changes_plan = (tag == LOAD || tag == TURN) && outcome == Outcome::Accepted;
+        if !changes_plan {
+            assert!(
+                self.board == before,
+                "a call that may not change the board did"
+            );
+            if tag == LOAD && outcome == Outcome::Refused(9) {
+                count_faults(&piece[3..], table);
+            }
+            return;
+        }
+        let (job, plan) = (self.board.job(), self.board.plan());
+        let fault = plan_fault(job.expect("held"), plan.expect("held"));
+        assert!(fault.is_none(), "the reference holds a bad plan: {fault:?}");
+        table.plans_checked += 1;
+        if tag == LOAD {
+            let written = job.expect("held").bytes();
+            assert!(
+                written == piece[3..],
+                "a job read and written has other bytes"
+            );
+            self.last_turn = None;
+            return;
+        }
+        if let Some((rooms, earlier)) = &self.last_turn {
+            if same_rooms(rooms, piece) {
+                assert!(*earlier == self.board, "a turn made again did not go back");
+                table.turned_back += 1;
+            }
+        }
+        self.last_turn = Some((piece.to_vec(), before));
+    }
+
+    fn some_vertex(&self, chance: &mut Chance) -> usize {
+        let vertices = self.board.job().map_or(5, |job| job.vertices());
+        match chance.below(20) {
+            0 => vertices,
+            1 => chance.below(65_536),
+            // A number that is a vertex again when cut to one byte.
+            2 => 256 + chance.below(vertices),
+            3 => vertices - 1,
+            _ => chance.below(vertices),
+        }
+    }
+
+    /// Two rooms in contact, where a plan is held.
+    fn some_contact(&self, chance: &mut Chance) -> (usize, usize) {
+        let Some(job) = self.board.job() else {
+            return (self.some_vertex(chance), self.some_vertex(chance));
+        };
+        let room = chance.between(FIRST_ROOM, job.vertices() - 1);
+        (room, chance.pick(job.star_of(room)).neighbour)
+    }
+
+    fn turn(&self, chance: &mut Chance) -> Vec<u8> {
+        if let Some((rooms, _)) = &self.last_turn {
+            if chance.percent(40) {
+                return rooms.clone();
+            }
+        }
+        let (one, other) = match chance.below(10) {
+            0 => (self.some_vertex(chance), self.some_vertex(chance)),
+            1 => {
+                let room = self.some_vertex(chance);
+                (room, room)
+            }
+            2 => {
+                let (one, other) = self.some_contact(chance);
+                (one, other + 256)
+            }
+            _ => self.some_turnable(chance),
+        };
+        if chance.percent(50) {
+            call(TURN, &four(one, other))
+        } else {
+            call(TURN, &four(other, one))
+        }
+    }
+
+    /// Most contacts have a list too short; a few more tries find one that can be turned.
+    fn some_turnable(&self, chance: &mut Chance) -> (usize, usize) {
+        let mut contact = self.some_contact(chance);
+        for _ in 0..chance.below(12) {
+            let Some(job) = self.board.job() else {
+                break;
+            };
+            if reference::turning::turned(job, contact.0, contact.1).is_ok() {
+                break;
+            }
+            contact = self.some_contact(chance);
+        }
+        contact
+    }
+
+    fn share(&self, chance: &mut Chance) -> Vec<u8> {
+        let (one, other) = match chance.below(10) {
+            0..=3 => self.some_contact(chance),
+            4 => {
+                let vertex = self.some_vertex(chance);
+                (vertex, vertex)
+            }
+            5 => (chance.below(5), chance.below(5)),
+            _ => (self.some_vertex(chance), self.some_vertex(chance)),
+        };
+        call(SHARE, &four(one, other))
+    }
+
+    /// Buffers that just fit, that just do not, and any others.
+    fn writing(&self, chance: &mut Chance, tag: u8) -> Vec<u8> {
+        let length = match (self.board.job(), self.board.plan()) {
+            (Some(job), _) if tag == WRITE_JOB => job.bytes().len(),
+            (_, Some(plan)) => plan.bytes().len(),
+            _ => 100,
+        };
+        let size = match chance.below(8) {
+            0..=1 => length,
+            2 => length - 1,
+            3 => length + 1,
+            4 => 0,
+            5 => LARGEST_BUFFER,
+            _ => chance.below(LARGEST_BUFFER + 1),
+        };
+        call(tag, &two(size))
+    }
+
+    fn star_question(&self, chance: &mut Chance) -> Vec<u8> {
+        let bytes = any_job(chance);
+        let rooms = usize::from(bytes.get(3).copied().unwrap_or(1));
+        let room = match chance.below(12) {
+            0 => chance.below(FIRST_ROOM),
+            1 => FIRST_ROOM + rooms,
+            2 => 256 + FIRST_ROOM + chance.below(rooms + 1),
+            3 => chance.below(65_536),
+            4 => FIRST_ROOM + rooms.saturating_sub(1),
+            _ => FIRST_ROOM + chance.below(rooms + 1),
+        };
+        let mut value = two(room).to_vec();
+        value.extend(bytes);
+        call(STAR, &value)
+    }
+}
+
+fn count_faults(bytes: &[u8], table: &mut Table) {
+    let job = job::read(bytes).expect("a job refused by 9 has passed tests 1 to 6");
+    let numbers = walls::number_walls(&job).expect("and test 7");
+    table.count_faults(drawing::faults(&job, &drawing::place(&job, &numbers)));
+}
+
+fn same_rooms(one: &[u8], other: &[u8]) -> bool {
+    one == other || (one[3..5] == other[5..7] && one[5..7] == other[3..5])
+}
+
+/// Bytes at whose first field, or soon after, a stream breaks; calls behind the break must stay unanswered.
+fn breaking_tail(chance: &mut Chance) -> Vec<u8> {
+    let mut tail = match chance.below(8) {
+        0 => cut(chance, call(TURN, &four(4, 5))),
+        1 => {
+            let bytes = any_job(chance);
+            cut(chance, call(LOAD, &bytes))
+        }
+        2 => call(
+            *chance.pick(&[0, 1, 2, 31, 39, 255, 32 + 128]),
+            &four(4, 5)[..chance.below(5)],
+        ),
+        3 => call(
+            *chance.pick(&[TURN, SHARE]),
+            &[0, 4, 0, 5, 0, 6][..*chance.pick(&[0, 1, 2, 3, 5, 6])],
+        ),
+        4 => call(
+            *chance.pick(&[RECTANGLE, WRITE_JOB, WRITE_PLAN]),
+            &[0, 4, 0, 5][..*chance.pick(&[0, 1, 3, 4])],
+        ),
+        5 => call(STAR, &[0, 4][..chance.below(2)]),
+        6 => call(
+            *chance.pick(&[WRITE_JOB, WRITE_PLAN]),
+            &two(*chance.pick(&[2_049, 2_050, 4_096, 65_535])),
+        ),
+        _ => (0..chance.between(1, 12)).map(|_| chance.byte()).collect(),
+    };
+    for _ in 0..chance.below(3) {
+        tail.extend(call(RECTANGLE, &two(0)));
+    }
+    tail
+}
+
+/// At least one byte is missing, and at least one is left.
+fn cut(chance: &mut Chance, mut piece: Vec<u8>) -> Vec<u8> {
+    let length = chance.between(1, piece.len() - 1);
+    piece.truncate(length);
+    piece
+}
+
+fn call(tag: u8, value: &[u8]) -> Vec<u8> {
+    let mut piece = Vec::new();
+    put_field(&mut piece, tag, value);
+    piece
+}
+
+fn two(number: usize) -> [u8; 2] {
+    (number as u16).to_be_bytes()
+}
+
+fn four(one: usize, other: usize) -> [u8; 4] {
+    let (a, b) = (two(one), two(other));
+    [a[0], a[1], b[0], b[1]]
+}

@@ -1,0 +1,141 @@
+//! How often each answer was seen.
+
+use crate::planner::{Outcome, LOAD, RECTANGLE, SHARE, STAR, TURN, WRITE_JOB, WRITE_PLAN};
+use reference::drawing::Faults;
+use std::collections::BTreeMap;
+
+#[derive(Default)]
+pub struct Table {
+    seen: BTreeMap<(u8, Outcome), u64>,
+    /// For loads refused by 9: which items of the drawing test failed together.
+    faults: BTreeMap<[bool; 6], u64>,
+    pub streams: u64,
+    pub broken_streams: u64,
+    pub listings: BTreeMap<String, u64>,
+    pub turned_back: u64,
+    pub plans_checked: u64,
+}
+
+const CALLS: [(u8, &str); 7] = [
+    (LOAD, "load"),
+    (TURN, "turn"),
+    (RECTANGLE, "rectangle"),
+    (SHARE, "share"),
+    (WRITE_JOB, "write job"),
+    (WRITE_PLAN, "write plan"),
+    (STAR, "star"),
+];
+
+const ITEMS: [&str; 6] = ["outside", "overlap", "area", "unjoined", "corner", "order"];
+
+impl Table {
+    pub fn count(&mut self, tag: u8, outcome: Outcome) {
+        *self.seen.entry((tag, outcome)).or_default() += 1;
+    }
+
+    pub fn count_faults(&mut self, faults: Faults) {
+        let key = [
+            faults.outside,
+            faults.overlap,
+            faults.area,
+            faults.unjoined,
+            faults.corner,
+            faults.order,
+        ];
+        *self.faults.entry(key).or_default() += 1;
+    }
+
+    pub fn count_listing(&mut self, text: &str) {
+        let first = text.lines().next().unwrap_or("");
+        let name = if first.starts_with("sheet") {
+            "accepted"
+        } else {
+            first
+        };
+        *self.listings.entry(name.to_string()).or_default() += 1;
+    }
+
+    pub fn cases(&self) -> u64 {
+        self.seen.values().sum()
+    }
+
+    fn of(&self, tag: u8, outcome: Outcome) -> u64 {
+        self.seen.get(&(tag, outcome)).copied().unwrap_or(0)
+    }
+
+    fn row(&self, name: &str, outcome: Outcome) {
+        print!("{name:>9}");
+        for (tag, _) in CALLS {
+            print!(" {:>10}", self.of(tag, outcome));
+        }
+        println!();
+    }
+
+    pub fn print(&self) {
+        print!("{:>9}", "answer");
+        for (_, name) in CALLS {
+            print!(" {name:>10}");
+        }
+        println!();
+        self.row("accepted", Outcome::Accepted);
+        for number in 1..=14 {
+            self.row(&number.to_string(), Outcome::Refused(number));
+        }
+        self.row("empty", Outcome::Empty);
+        self.print_faults();
+        self.print_rest();
+    }
+
+    /// An item that never fails alone is not shown to be looked at.
+    fn print_faults(&self) {
+        println!("drawing test, loads refused by 9: item, failed at all, failed alone");
+        for (item, name) in ITEMS.iter().enumerate() {
+            let with = |alone: bool| -> u64 {
+                let fits = |key: &[bool; 6]| {
+                    key[item] && (!alone || key.iter().filter(|&&failed| failed).count() == 1)
+                };
+                self.faults
+                    .iter()
+                    .filter(|(key, _)| fits(key))
+                    .map(|(_, count)| count)
+                    .sum()
+            };
+            println!("{name:>9} {:>10} {:>10}", with(false), with(true));
+        }
+    }
+
+    fn print_rest(&self) {
+        println!(
+            "{} streams, {} of them broken; {} plans checked cell by cell; {} turns made again at once",
+            self.streams, self.broken_streams, self.plans_checked, self.turned_back
+        );
+        let listings: Vec<String> = self
+            .listings
+            .iter()
+            .map(|(name, count)| format!("{name}: {count}"))
+            .collect();
+        println!("listings: {}", listings.join(", "));
+        let never: Vec<String> = (1..=14u8)
+            .filter(|&number| {
+                CALLS
+                    .iter()
+                    .all(|&(tag, _)| self.of(tag, Outcome::Refused(number)) == 0)
+            })
+            .map(|number| number.to_string())
+            .collect();
+        println!("refusals never seen: {}", none_or(&never));
+        let turns: Vec<String> = (7..=9u8)
+            .filter(|&number| self.of(TURN, Outcome::Refused(number)) == 0)
+            .map(|number| number.to_string())
+            .collect();
+        println!("never seen on a turn: {}", none_or(&turns));
+    }
+}
+
+fn none_or(names: &[String]) -> String {
+    if names.is_empty() {
+        "none".to_string()
+    } else {
+        names.join(", ")
+    }
+}
