@@ -1,0 +1,44 @@
+-- What a program that keeps no board asks of a job's bytes: the calls of a board, made one behind the other on an empty one. Assumes nothing.
+use Prim.Native.Nat.{ℕ, _+_}
+use mathlib.Core.Bool.{cond}
+use mathlib.Core.List.{List, []}
+use lib.ListN.{length}
+use lib.Dec.{leb}
+use Rattle.floor.specs.Jobs.{rawStar}
+use Rattle.floor.specs.Calls.{empty, Board, Call, loads, turns, shares, writesJob, writesPlan, lent, Reply, refusal, done, spans, says, wrote, Step, refuse, writes, step}
+
+-- a call made behind one with this reply: none is made behind a refused one, and its number stands
+unfoldable pub behind : Reply → Board → Call → Step
+behind (refusal k) b c = refuse b k (lent c)
+behind done b c = step b c
+behind (spans r) b c = step b c
+behind (says t) b c = step b c
+behind (wrote n) b c = step b c
+
+-- a call made behind another
+unfoldable pub then : Step → Call → Step
+then s c = behind (s .reply) (s .board) c
+
+-- THE PLAN OF A JOB, written to a lent buffer
+unfoldable pub planOfJob : List ℕ → List ℕ → Step
+planOfJob bs buf = then (step empty (loads bs)) (writesPlan buf)
+
+-- THE TURNED JOB OF A JOB, written to a lent buffer
+unfoldable pub turnedOfJob : List ℕ → ℕ → ℕ → List ℕ → Step
+turnedOfJob bs u v buf = then (then (step empty (loads bs)) (turns u v)) (writesJob buf)
+
+-- WHETHER TWO VERTICES OF A JOB SHARE a wall length of at least 1
+unfoldable pub shareOfJob : List ℕ → ℕ → ℕ → Step
+shareOfJob bs u v = then (step empty (loads bs)) (shares u v)
+
+-- THE STAR OF A ROOM in raw job bytes, written to a lent buffer; no bytes where there is no such room
+unfoldable pub starOfJob : List ℕ → ℕ → List ℕ → Step
+starOfJob bs room buf = writes empty (leb (length (rawStar bs room)) (length buf)) (rawStar bs room) buf
+
+-- AN ANSWER AS ONE NUMBER: a refusal is its own number, below 256; from 256 on it is a length that was written, or 1 for yes and 0 for no
+unfoldable pub code : Reply → ℕ
+code (refusal k) = k
+code done = 256
+code (spans r) = 256
+code (says t) = 256 + cond t 1 0
+code (wrote n) = 256 + n
