@@ -1,7 +1,7 @@
 //! Jobs of every sort: floors as they are, floors damaged in many ways, limits, and mere garbage.
 
-use crate::chance::Chance;
-use crate::floors::{any_floor, floor_of, renumbered, turned_at_random, MOST_ROOMS};
+use floors::Chance;
+use floors::{any_floor, floor_of, renumbered, turned_at_random, MOST_ROOMS};
 use reference::fields::put_field;
 use reference::job::{Entry, Job};
 use reference::{opposite, ABOVE, FIRST_ROOM, RIGHT};

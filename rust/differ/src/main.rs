@@ -1,8 +1,6 @@
 //! Puts many jobs and calls to the reference and to the built programs `calls` and `listing`, and compares every line.
 
-mod chance;
 mod damage;
-mod floors;
 mod planner;
 mod programs;
 mod proofread;
@@ -13,7 +11,7 @@ mod table;
 #[cfg(test)]
 mod tests;
 
-use chance::Chance;
+use floors::Chance;
 use planner::{hex, listing_text};
 use programs::UnderTest;
 use reference::Board;

@@ -1,6 +1,5 @@
 //! Streams of calls, made while the reference answers them, so that later calls can aim at what is held.
 
-use crate::chance::Chance;
 use crate::damage::any_job;
 use crate::planner::{
     answer_stream, Outcome, LARGEST_BUFFER, LOAD, RECTANGLE, SHARE, STAR, TURN, WRITE_JOB,
@@ -8,6 +7,7 @@ use crate::planner::{
 };
 use crate::proofread::plan_fault;
 use crate::table::Table;
+use floors::Chance;
 use reference::fields::put_field;
 use reference::{drawing, job, walls, Board, FIRST_ROOM};
 

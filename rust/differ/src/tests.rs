@@ -1,6 +1,5 @@
 //! The comparison tried on itself: every known slip is found and shrunk, and the reference agrees with itself.
 
-use crate::chance::Chance;
 use crate::damage::finished_floor;
 use crate::programs::UnderTest;
 use crate::proofread::plan_fault;
@@ -8,6 +7,7 @@ use crate::shrink::{both_texts, Shrinker};
 use crate::slips::ALL;
 use crate::streams::{make_stream, Budget};
 use crate::table::Table;
+use floors::Chance;
 use reference::Board;
 
 /// The first stream in which the planner under test differs.

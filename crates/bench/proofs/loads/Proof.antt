@@ -1,6 +1,6 @@
 use borrow.Author.Needs.{needs}
-use Rattle.wall_bench.proofs.loads.Statement.{statement}
-use Rattle.wall_bench.proofs.loads.Tie as tie
+use Rattle.bench.proofs.loads.Statement.{statement}
+use Rattle.bench.proofs.loads.Tie as tie
 
 abbrev Inv-loop : tie.InvT-loop
 Inv-loop job rounds sum₀ left₀ held₀ sum left held = Unit

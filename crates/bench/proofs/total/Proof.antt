@@ -1,7 +1,7 @@
 use Prim.Native.Nat.{}
 use borrow.Author.Needs.{needs}
-use Rattle.wall_bench.proofs.total.Statement.{statement}
-use Rattle.wall_bench.proofs.total.Tie as tie
+use Rattle.bench.proofs.total.Statement.{statement}
+use Rattle.bench.proofs.total.Tie as tie
 
 abbrev Inv-loop : tie.InvT-loop
 Inv-loop stars rounds sum₀ left₀ sum left = Unit

@@ -1,7 +1,7 @@
 use Prim.Native.Nat.{_-_}
 use borrow.Author.Needs.{needs}
-use Rattle.wall_bench.proofs.sum_of.Statement.{statement}
-use Rattle.wall_bench.proofs.sum_of.Tie as tie
+use Rattle.bench.proofs.sum_of.Statement.{statement}
+use Rattle.bench.proofs.sum_of.Tie as tie
 
 abbrev Inv-loop : tie.InvT-loop
 Inv-loop numbers level sum₀ i₀ sum i = Unit

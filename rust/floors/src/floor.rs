@@ -11,9 +11,9 @@ const FINE: usize = 1 << 20;
 
 /// Rooms that fill the rectangle from 0,0 to width,height.
 pub struct Floor {
-    width: usize,
-    height: usize,
-    rooms: Vec<Rectangle>,
+    pub width: usize,
+    pub height: usize,
+    pub rooms: Vec<Rectangle>,
 }
 
 /// A floor of some size and make, as a job.
@@ -36,7 +36,7 @@ pub fn floor_of(chance: &mut Chance, rooms: usize) -> Job {
     loop {
         let floor = one_floor(chance, rooms);
         let floor = mirrored(chance, floor);
-        if let Some(job) = stars_from_geometry(&floor) {
+        if let Some(job) = job_of(&floor) {
             return job;
         }
     }
@@ -305,7 +305,7 @@ fn mirrored(chance: &mut Chance, mut floor: Floor) -> Floor {
 }
 
 /// The stars as seen on the floor, or nothing where two rooms meet only at a corner.
-fn stars_from_geometry(floor: &Floor) -> Option<Job> {
+pub fn job_of(floor: &Floor) -> Option<Job> {
     let stars: Option<Vec<Star>> = floor.rooms.iter().map(|r| star_on(floor, r)).collect();
     Some(Job { stars: stars? })
 }
@@ -396,7 +396,7 @@ pub fn turned_at_random(chance: &mut Chance, job: Job) -> Job {
     result
 }
 
-fn rectangle(x1: usize, y1: usize, x2: usize, y2: usize) -> Rectangle {
+pub fn rectangle(x1: usize, y1: usize, x2: usize, y2: usize) -> Rectangle {
     Rectangle { x1, y1, x2, y2 }
 }
 

@@ -1,0 +1,8 @@
+//! Floors made by geometry, and the jobs that describe them: what the comparison and the benchmark both start from.
+
+pub mod chance;
+pub mod floor;
+pub mod known;
+
+pub use chance::Chance;
+pub use floor::{any_floor, floor_of, renumbered, turned_at_random, Floor, MOST_ROOMS};
