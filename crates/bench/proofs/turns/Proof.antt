@@ -8,7 +8,6 @@ Inv-loop first u v rounds sum₀ left₀ sum left held = Unit
 abbrev μ-loop : tie.MeasureT-loop
 μ-loop first u v rounds sum₀ left₀ sum left held = left
 
-
 loop-holds : tie.Need-loop-holds Inv-loop μ-loop
 loop-holds c = search needs
 
