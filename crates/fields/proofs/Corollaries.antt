@@ -4,10 +4,12 @@ use mathlib.Core.Path.{_≡_, refl, sym, _∙_, ap}
 use mathlib.Core.List.{List}
 use native.Mathlib.Omega.{arith}
 use lib.ListN.{length, drop, length-drop}
+use denote.Ref.{RefT}
 use Rattle.floor.specs.Fields.{readField}
 use Rattle.floor.specs.Calls.{Reply}
 use Rattle.fields.specs.declared.Found.{Found}
 use Rattle.fields.specs.declared.Found.the-variants.{Broken, Whole}
+use Rattle.fields.specs.declared.reader.Reader.{Reader}
 use Rattle.fields.specs.Found.{found, stands}
 use Rattle.fields.specs.declared.Written.{Written}
 use Rattle.fields.specs.declared.Written.the-variants.{Wrote, TooShort}
@@ -16,7 +18,7 @@ use Rattle.fields.specs.Writes.{replied, writing}
 rest-length : (s : List ℕ) (e e′ : ℕ) → e ≤ length s → e′ ≤ length s → drop e s ≡ drop e′ s → e ≡ e′
 rest-length s e e′ h h′ q = omega (arith, simp length-drop at (ap (λ (l : List ℕ). length l) q))
 
--- the promise of `field_at` allows one answer
+-- the promise of `read_at`, which is that of `next` too, allows one answer
 pub one-field : (s : List ℕ) (at : ℕ) (f g : Found) → found f s ≡ readField (drop at s) → stands f at (length s)
     → found g s ≡ readField (drop at s) → stands g at (length s) → f ≡ g
 unfolding found stands
@@ -29,6 +31,13 @@ one-field s at (Whole t x y) (Whole u v w) p a q b =
     let start : x ≡ v = a .0 ∙ sym (b .0) in
     let end : y ≡ w = rest-length s y w (a .2) (b .2) d in
     cc
+
+same-reader : (s t : RefT (List ℕ)) (a b : ℕ) → s ≡ t → a ≡ b → _≡_ {A = Reader} (record { bytes = s; place = a }) (record { bytes = t; place = b })
+same-reader s t a b p q = rw (p, q)
+
+-- the promise of `start` allows one reader
+pub one-reader : (s : RefT (List ℕ)) (n : ℕ) (r t : Reader) → (r .bytes ≡ s) × (r .place ≡ n) → (t .bytes ≡ s) × (t .place ≡ n) → r ≡ t
+one-reader s n r t p q = same-reader (r .bytes) (t .bytes) (r .place) (t .place) (p .0 ∙ sym (q .0)) (p .1 ∙ sym (q .1))
 
 -- a promise that is an equation, as those of `value_at`, `after_at` and `put_head`, allows one answer
 pub one-answer : {A : Type 0} (r t w : A) → r ≡ w → t ≡ w → r ≡ t

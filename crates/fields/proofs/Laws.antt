@@ -64,6 +64,13 @@ module _ (s : List ℕ) (at : ℕ) where
       let d : at + 3 + n - (at + 3) ≡ n = omega arith in
       (sym (read-head h ∙ rw (le-leb word (length (drop (at + 3) s)) l, ← e, d, drop-drop n (at + 3) s)), (refl, omega arith, omega arith))
 
+-- what is promised of an answer on a place of some bytes; the proofs over the reader carry it as one fact
+abbrev pub tells : Found → List ℕ → ℕ → Type 0
+tells f s at = (found f s ≡ readField (drop at s)) × stands f at (length s)
+
+pub tells-there : (f : Found) (s t : List ℕ) (a b : ℕ) → s ≡ t → a ≡ b → tells f s a → tells f t b
+tells-there f s t a b p q e = rw (p, q) at e
+
 -- what an answer tells of the bytes
 module _ (s : List ℕ) (at : ℕ) (f : Found) where
   pub no-field : f ≡ Broken → found f s ≡ readField (drop at s) → readField (drop at s) ≡ broken

@@ -5,6 +5,8 @@ ghost use lib.ListN.{length, getD, drop};
 ghost use Rattle.floor.specs.Fields.{readField, valueOf, restOf};
 ghost use Rattle.fields.specs.Found.{found, stands, withHead};
 
+pub mod reader; // reader.rt: the reader of a job's fields
+
 // What stands at a place: no whole field, or a tag, and where its value starts and ends.
 pub enum Found {
     Broken,
@@ -39,8 +41,8 @@ fn word_at(s: &[u8], at: usize) -> usize
     256 * wide(s[at]) + wide(s[at + 1])
 }
 
-// The field at a place of the bytes.
-pub fn field_at(s: &[u8], at: usize) -> Found
+// The field at a place of the bytes: the work behind the reader.
+fn field_at(s: &[u8], at: usize) -> Found
     ensures { λ r. ⌜ (found r (now (s .entry)) ≡ readField (drop at (now (s .entry)))) × stands r at (length (now (s .entry))) ⌝ }
 {
     if s.len() < at {
@@ -61,7 +63,7 @@ pub fn field_at(s: &[u8], at: usize) -> Found
 pub fn value_at(s: &[u8], at: usize) -> &[u8]
     ensures { λ r. ⌜ now r ≡ valueOf (readField (drop at (now (s .entry)))) ⌝ }
 {
-    let here = field_at(s, at);
+    let here = reader::read_at(s, at);
     match here {
         Found::Broken => &s[0..0],
         Found::Whole(_, start, end) => &s[start..end],
@@ -72,7 +74,7 @@ pub fn value_at(s: &[u8], at: usize) -> &[u8]
 pub fn after_at(s: &[u8], at: usize) -> usize
     ensures { λ r. ⌜ r ≡ length (now (s .entry)) - length (restOf (readField (drop at (now (s .entry))))) ⌝ }
 {
-    let here = field_at(s, at);
+    let here = reader::read_at(s, at);
     match here {
         Found::Broken => s.len(),
         Found::Whole(_, _, end) => end,

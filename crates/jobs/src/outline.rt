@@ -16,7 +16,7 @@ fn count_pairs(job: &[u8], from: usize, n: u8) -> Count
     let mut pairs: usize = 0;
     let mut i: usize = 0;
     while i < count {
-        let here = fields::field_at(job, at);
+        let here = fields::reader::read_at(job, at);
         let Found::Whole(tag, start, end) = here else {
             return Count::Unshaped;
         };
@@ -40,7 +40,7 @@ fn count_pairs(job: &[u8], from: usize, n: u8) -> Count
 pub fn shape_of(job: &[u8]) -> Shape
     ensures { λ r. ⌜ (reading r (now (job .entry)) ≡ readJob (now (job .entry))) × told r (now (job .entry)) ⌝ }
 {
-    let first = fields::field_at(job, 0);
+    let first = fields::reader::read_at(job, 0);
     let Found::Whole(tag, start, end) = first else {
         return Shape::Fails(1);
     };

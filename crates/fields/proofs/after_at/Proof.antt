@@ -3,8 +3,8 @@ use borrow.Author.Needs.{needs}
 use Rattle.fields.proofs.after_at.Statement.{statement}
 use Rattle.fields.proofs.after_at.Tie as tie
 
-field-at-requires : tie.Need-field-at-requires
-field-at-requires c κs = search needs
+read-at-requires : tie.Need-read-at-requires
+read-at-requires c κs = search needs
 
 enum-told : tie.Need-enum-told
 enum-told c = search needs
@@ -19,4 +19,4 @@ returns-2 : tie.Need-returns-2
 returns-2 c = search (after-whole, needs)
 
 pub after-at-spec : {M : Type 1} → statement M
-after-at-spec = tie.close (tie.spec field-at-requires enum-told enum-known-here returns returns-2)
+after-at-spec = tie.close (tie.spec read-at-requires enum-told enum-known-here returns returns-2)

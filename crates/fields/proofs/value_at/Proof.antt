@@ -3,8 +3,8 @@ use borrow.Author.Needs.{needs}
 use Rattle.fields.proofs.value_at.Statement.{statement}
 use Rattle.fields.proofs.value_at.Tie as tie
 
-field-at-requires : tie.Need-field-at-requires
-field-at-requires c κs = search needs
+read-at-requires : tie.Need-read-at-requires
+read-at-requires c κs = search needs
 
 enum-told : tie.Need-enum-told
 enum-told c = search needs
@@ -40,7 +40,7 @@ pub value-at-spec : {M : Type 1} → statement M
 value-at-spec =
     tie.close
     (tie.spec
-    field-at-requires
+    read-at-requires
     enum-told
     sub-result
     part-result-start

@@ -24,8 +24,8 @@ wide-requires c κs = search needs
 loop-holds : tie.Need-loop-holds Inv-loop μ-loop
 loop-holds c = (search needs, rw (sub-zero, c .wide .ensures .0))
 
-field-at-requires : tie.Need-field-at-requires Inv-loop μ-loop
-field-at-requires c κs = search needs
+read-at-requires : tie.Need-read-at-requires Inv-loop μ-loop
+read-at-requires c κs = search needs
 
 enum-known-here : tie.Need-enum-known-here Inv-loop μ-loop
 enum-known-here c = search needs
@@ -52,7 +52,7 @@ add-pairs : tie.Need-add-pairs Inv-loop μ-loop
 add-pairs c = let a = c .before .before .before .before .before in
     let s = a .before .before .before .before .before .args .job .now in
     let here = c .before .before .before .here .given .1 in
-    omega (arith, pairs-fit s _ _ _ _ _ _ here (a .field-at .ensures .1) (a .before .before .loop .inv .0), within s _ _ _ _ _ here (a .field-at .ensures .1))
+    omega (arith, pairs-fit s _ _ _ _ _ _ here (a .read-at .ensures .1) (a .before .before .loop .inv .0), within s _ _ _ _ _ here (a .read-at .ensures .1))
 
 add-i : tie.Need-add-i Inv-loop μ-loop
 add-i c = search needs
@@ -77,7 +77,7 @@ count-pairs-spec =
     μ-loop
     wide-requires
     loop-holds
-    field-at-requires
+    read-at-requires
     enum-known-here
     enum-told
     returns

@@ -4,8 +4,8 @@ use borrow.Author.Needs.{needs}
 use Rattle.jobs.proofs.outline.shape_of.Statement.{statement}
 use Rattle.jobs.proofs.outline.shape_of.Tie as tie
 
-field-at-requires : tie.Need-field-at-requires
-field-at-requires c κs = search needs
+read-at-requires : tie.Need-read-at-requires
+read-at-requires c κs = search needs
 
 enum-known-first : tie.Need-enum-known-first
 enum-known-first c = search needs
@@ -14,11 +14,11 @@ enum-told : tie.Need-enum-told
 enum-told c = search needs
 
 returns : tie.Need-returns
-returns c = shape-broken _ _ (c .before .before .field-at .ensures .0) (search needs)
+returns c = shape-broken _ _ (c .before .before .read-at .ensures .0) (search needs)
 
 returns-2 : tie.Need-returns-2
 returns-2 c = let first = c .before .before in
-    let field = first .before .before .field-at in
+    let field = first .before .before .read-at in
     shape-tag _ _ (field .ensures .0) (field .ensures .1) _ _ _ (first .first .given .1) (c .if1 .taken)
 
 sub-if2 : tie.Need-sub-if2
@@ -26,7 +26,7 @@ sub-if2 c = search (in-order, needs)
 
 returns-3 : tie.Need-returns-3
 returns-3 c = let first = c .before .before .before in
-    let field = first .before .before .field-at in
+    let field = first .before .before .read-at in
     shape-long _ _ (field .ensures .0) (field .ensures .1) _ _ _ (first .first .given .1) (c .before .if1 .left) (c .if2 .taken)
 
 shared-slice-read-n : tie.Need-shared-slice-read-n
@@ -35,13 +35,13 @@ shared-slice-read-n c = search (start-within, needs)
 returns-4 : tie.Need-returns-4
 returns-4 c = let two = c .before .before in
     let first = two .before .before .before in
-    let field = first .before .before .field-at in
+    let field = first .before .before .read-at in
     shape-none _ _ (field .ensures .0) (field .ensures .1) _ _ _ (first .first .given .1) (two .before .if1 .left) (two .if2 .left) (c .if3 .taken)
 
 returns-5 : tie.Need-returns-5
 returns-5 c = let two = c .before .before .before in
     let first = two .before .before .before in
-    let field = first .before .before .field-at in
+    let field = first .before .before .read-at in
     shape-many _ _ (field .ensures .0) (field .ensures .1) _ _ _ (first .first .given .1) (two .before .if1 .left) (two .if2 .left) (c .if4 .taken)
 
 count-pairs-requires : tie.Need-count-pairs-requires
@@ -57,7 +57,7 @@ returns-6 : tie.Need-returns-6
 returns-6 c = let four = c .before .before .before in
     let two = four .before .before .before in
     let first = two .before .before .before in
-    let field = first .before .before .field-at in
+    let field = first .before .before .read-at in
     shape-left _ _ (field .ensures .0) (field .ensures .1) _ _ _ (first .first .given .1) (two .before .if1 .left)
     (two .if2 .left) (four .before .if3 .left) (four .if4 .left) _
     (c .before .before .count-pairs .ensures) (search needs)
@@ -66,7 +66,7 @@ returns-7 : tie.Need-returns-7
 returns-7 c = let four = c .before .before .before .before in
     let two = four .before .before .before in
     let first = two .before .before .before in
-    let field = first .before .before .field-at in
+    let field = first .before .before .read-at in
     shape-whole _ _ (field .ensures .0) (field .ensures .1) _ _ _ (first .first .given .1) (two .before .if1 .left)
     (two .if2 .left) (four .before .if3 .left) (four .if4 .left) _ _
     (c .before .before .before .count-pairs .ensures) (c .before .count .given .1)
@@ -75,7 +75,7 @@ pub shape-of-spec : {M : Type 1} → statement M
 shape-of-spec =
     tie.close
     (tie.spec
-    field-at-requires
+    read-at-requires
     enum-known-first
     enum-told
     returns
