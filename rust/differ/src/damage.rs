@@ -1,5 +1,6 @@
 //! Jobs of every sort: floors as they are, floors damaged in many ways, limits, and mere garbage.
 
+use crate::alone::undrawable;
 use floors::Chance;
 use floors::{any_floor, floor_of, renumbered, turned_at_random, MOST_ROOMS};
 use reference::fields::put_field;
@@ -10,7 +11,8 @@ use reference::{opposite, ABOVE, FIRST_ROOM, RIGHT};
 pub fn any_job(chance: &mut Chance) -> Vec<u8> {
     match chance.below(100) {
         0..=29 => finished_floor(chance).bytes(),
-        30..=74 => damaged_job(chance).bytes(),
+        30..=70 => damaged_job(chance).bytes(),
+        71..=74 => undrawable(chance).bytes(),
         75..=84 => damaged_bytes(chance),
         85..=91 => scattered(chance).bytes(),
         92..=94 => garbage(chance),

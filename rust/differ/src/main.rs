@@ -1,5 +1,6 @@
 //! Puts many jobs and calls to the reference and to the built programs `calls` and `listing`, and compares every line.
 
+mod alone;
 mod damage;
 mod planner;
 mod programs;
