@@ -29,7 +29,8 @@ use Rattle.drawing.specs.Drawn.{said}
 use Rattle.drawing.proofs.Corollaries.{plan-back as drawn-back}
 use Rattle.board.specs.declared.Board.{Board as HeldBoard}
 use Rattle.board.specs.declared.Planned.{Planned}
-use Rattle.board.specs.Boards.{boardFor, sameNumbers, sameStars, samePlan, leftBy, asLoaded, kept, Plans}
+use Rattle.floor.specs.Lists.{sameNumbers}
+use Rattle.board.specs.Boards.{boardFor, sameStars, samePlan, leftBy, asLoaded, kept, Plans}
 
 -- lists of different lengths are not the same
 pub same-length : (a b : List ℕ) → (length a ≡ length b → ⊥) → false ≡ sameNumbers a b

@@ -5,6 +5,7 @@ use mathlib.Core.Bool.{Bool, true, false, cond, _&&_}
 use mathlib.Core.List.{List, [], _∷_}
 use lib.Dec.{eqb}
 use lib.ListN.{length}
+use Rattle.floor.specs.Lists.{sameNumbers}
 use Rattle.floor.specs.Jobs.{Job, Reading, fails, reads, writeJob}
 use Rattle.floor.specs.Plans.{Plan, Answer, refused, held}
 use Rattle.floor.specs.Calls.{load, Board, empty, holding, Reply, refusal, done, spans, says, wrote, Step}
@@ -26,13 +27,6 @@ boardFor j p = record { stars = heldOf j; plan = heldPlan p }
 -- the board at first: nothing is held
 unfoldable pub noBoard : HeldBoard
 noBoard = record { stars = noStars; plan = noPlan }
-
--- the same numbers, one by one
-unfoldable pub sameNumbers : List ℕ → List ℕ → Bool
-sameNumbers [] [] = true
-sameNumbers [] (y ∷ ys) = false
-sameNumbers (x ∷ xs) [] = false
-sameNumbers (x ∷ xs) (y ∷ ys) = eqb x y && sameNumbers xs ys
 
 -- the same stars
 unfoldable pub sameStars : Stars → Stars → Bool

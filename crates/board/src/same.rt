@@ -1,7 +1,8 @@
 // Whether a board is as a load leaves it: its own job, written and planned, gives this very board.
 ghost use mathlib.Core.Path.{_≡_};
 ghost use lib.ListN.{take, replicate};
-ghost use Rattle.board.specs.Boards.{sameNumbers, sameStars, samePlan, leftBy, asLoaded};
+ghost use Rattle.floor.specs.Lists.{sameNumbers};
+ghost use Rattle.board.specs.Boards.{sameStars, samePlan, leftBy, asLoaded};
 ghost use Rattle.floor.specs.Calls.{load};
 use crate::Board;
 use drawing::Plan;

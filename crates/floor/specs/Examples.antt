@@ -5,7 +5,7 @@ use mathlib.Core.Bool.{Bool, true, false, cond, _&&_}
 use mathlib.Core.List.{List, [], _∷_, _++_, map}
 use lib.Dec.{eqb}
 use lib.ListN.{replicate}
-use Rattle.floor.specs.Lists.{all, any, keep, pairwise, chained, sum, upFrom, isFirst, isLast}
+use Rattle.floor.specs.Lists.{all, any, keep, pairwise, chained, sum, sameNumbers, upFrom, isFirst, isLast}
 use Rattle.floor.specs.Fields.{readField, restOf, writeField}
 use Rattle.floor.specs.Jobs.{Star, Job, opposite, frameKind, rooms, isVertex, isRoom, starOf, names, lists, kindOf, listOf, pairsIn, test2, test3}
 use Rattle.floor.specs.Jobs.{entryOk, test4, starOk, test5, test6, entries, starThen, readStars, readRest, readRooms, readFirst, readJob, passing}
@@ -116,13 +116,6 @@ rowStar n v =
 unfoldable row : ℕ → Job
 row n = map (rowStar n) (upFrom 4 n)
 
--- the two lists are one
-unfoldable pub same : List ℕ → List ℕ → Bool
-same [] [] = true
-same [] (y ∷ ys) = false
-same (x ∷ xs) [] = false
-same (x ∷ xs) (y ∷ ys) = eqb x y && same xs ys
-
 -- the numbers of some rectangles
 unfoldable pub numbers : List Rect → List ℕ
 numbers [] = []
@@ -151,7 +144,7 @@ pub record Row : Type 0 where
 unfoldable pub right : Row → Bool
 right r =
     let s : Step = step (run empty (r .before)) (r .last) in
-    same (told (s .reply) (s .board) (s .buffer)) (r .shows)
+    sameNumbers (told (s .reply) (s .board) (s .buffer)) (r .shows)
 
 pub table : List Row
 table =
@@ -236,7 +229,7 @@ table =
 
 -- EVERY ROW HOLDS
 pub examples : all right table ≡ true
-unfolding rowStar row p1 p5 p6 p7 jobF p10 floorP1 floorP5 floorF turnedF planP1 same numbers plan told right table all any keep pairwise chained sum
+unfolding rowStar row p1 p5 p6 p7 jobF p10 floorP1 floorP5 floorF turnedF planP1 sameNumbers numbers plan told right table all any keep pairwise chained sum
     upFrom isFirst
     isLast readField restOf writeField opposite frameKind rooms isVertex isRoom starOf names lists kindOf listOf pairsIn test2 test3 entryOk test4 starOk
     test5 test6 entries starThen readStars readRest readRooms readFirst readJob passing firstSix starBytes writeStars writeJob entryRules starRules

@@ -4,6 +4,7 @@ use mathlib.Core.Bool.{cond}
 use mathlib.Core.List.{List, [], _∷_, _++_}
 use lib.ListN.{length}
 use lib.Dec.{leb, ltb}
+use Rattle.floor.specs.Quoted.{plain}
 use Rattle.floor.specs.Plans.{Rect, Plan, Answer, refused, held, rectBytes}
 use Rattle.floor.specs.Calls.{load}
 
@@ -22,17 +23,17 @@ line [] = 10 ∷ []
 line (n ∷ []) = decimal n ++ (10 ∷ [])
 line (n ∷ m ∷ ns) = decimal n ++ (32 ∷ line (m ∷ ns))
 
--- `sheet `
+-- the word in front of a sheet
 unfoldable pub sheetWord : List ℕ
-sheetWord = 115 ∷ 104 ∷ 101 ∷ 101 ∷ 116 ∷ 32 ∷ []
+sheetWord = plain "sheet "
 
--- `refused `
+-- the word in front of a refusal
 unfoldable pub refusedWord : List ℕ
-refusedWord = 114 ∷ 101 ∷ 102 ∷ 117 ∷ 115 ∷ 101 ∷ 100 ∷ 32 ∷ []
+refusedWord = plain "refused "
 
--- `input too long`, and the end of the line
+-- what is said of too long an input
 unfoldable pub tooLong : List ℕ
-tooLong = 105 ∷ 110 ∷ 112 ∷ 117 ∷ 116 ∷ 32 ∷ 116 ∷ 111 ∷ 111 ∷ 32 ∷ 108 ∷ 111 ∷ 110 ∷ 103 ∷ 10 ∷ []
+tooLong = plain "input too long\n"
 
 -- a line for each rectangle: vertex, x1, y1, x2, y2
 unfoldable pub rectLines : List Rect → List ℕ

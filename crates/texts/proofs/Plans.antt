@@ -6,6 +6,7 @@ use native.Mathlib.Omega.{arith}
 use lib.ListN.{length, getD, drop, drop-of-length-le, length-append}
 use lib.Seq.{sets, drop-cons}
 use Rattle.floor.specs.Plans.{Rect, nowhere, rectOf, rectBytes}
+use Rattle.floor.specs.Quoted.{plain}
 use Rattle.floor.specs.Texts.{line, sheetWord, rectLines, planText}
 use Rattle.fields.proofs.Puts.{sets-append}
 use Rattle.drawing.specs.declared.Rect.{Rect as HeldRect}
@@ -83,14 +84,14 @@ module _ (p : HeldPlan) where
 
     pub plan-put : (o x y z : List ℕ) (m k : ℕ) → x ≡ sets o 0 sheetWord → m ≡ 0 + 6 → y ≡ sets x m (line (w ∷ h ∷ [])) → k ≡ m + length (line (w ∷ h ∷ []))
         → z ≡ sets y k (rectLines (planIn p .rects)) → z ≡ sets o 0 (planText (planIn p))
-    unfolding sheetWord
+    unfolding sheetWord plain
     plan-put o x y z m k ex em ey ek ez =
         rw plan-text at (both-put o x z sheetWord (line (w ∷ h ∷ []) ++ rectLines (planIn p .rects)) 0 m ex em
         (both-put x y z (line (w ∷ h ∷ [])) (rectLines (planIn p .rects)) m k ey ek ez))
 
     pub plan-end : (m k r : ℕ) → m ≡ 0 + 6 → k ≡ m + length (line (w ∷ h ∷ [])) → r ≡ k + length (rectLines (planIn p .rects))
         → r ≡ length (planText (planIn p))
-    unfolding sheetWord
+    unfolding sheetWord plain
     plan-end m k r em ek er =
         omega (
           arith,

@@ -1,3 +1,4 @@
+use Rattle.floor.specs.Quoted.{plain}
 use Rattle.floor.specs.Texts.{tooLong}
 use borrow.Author.Needs.{needs}
 use Rattle.texts.proofs.list_too_long.Statement.{statement}
@@ -7,7 +8,7 @@ put-too-long-requires : tie.Need-put-too-long-requires
 put-too-long-requires c κs = search needs
 
 returns : tie.Need-returns
-unfolding tooLong
+unfolding tooLong plain
 returns c = search needs
 
 pub list-too-long-spec : {M : Type 1} → statement M

@@ -2,7 +2,7 @@ use Prim.Native.Nat.{_-_, _≤_}
 use mathlib.Core.Path.{_≡_, refl}
 use native.Mathlib.Omega.{arith}
 use lib.ListN.{length, drop}
-use Rattle.board.specs.Boards.{sameNumbers}
+use Rattle.floor.specs.Lists.{sameNumbers}
 use Rattle.board.proofs.Standing.{same-length, same-false, same-next, same-done}
 use borrow.Author.Needs.{needs}
 use Rattle.board.proofs.same.same_words.Statement.{statement}

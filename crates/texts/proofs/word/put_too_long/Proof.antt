@@ -1,3 +1,4 @@
+use Rattle.floor.specs.Quoted.{plain}
 use Rattle.floor.specs.Texts.{tooLong}
 use borrow.Author.Needs.{needs}
 use Rattle.texts.proofs.word.put_too_long.Statement.{statement}
@@ -13,7 +14,7 @@ same-length : tie.Need-same-length
 same-length c = search needs
 
 returns : tie.Need-returns
-unfolding tooLong
+unfolding tooLong plain
 returns c = search needs
 
 pub put-too-long-spec : {M : Type 1} → statement M

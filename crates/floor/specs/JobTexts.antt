@@ -1,0 +1,246 @@
+-- A job as text that staff write by hand: a room a line, as `4: above N, left W, below 6, right 5`. Assumes nothing.
+use Prim.Native.Nat.{ℕ, zero, suc, _+_, _-_, _*_}
+use mathlib.Core.Bool.{Bool, true, false, cond, _&&_, _||_}
+use mathlib.Core.List.{List, [], _∷_, _++_}
+use lib.ListN.{length, drop, getD}
+use lib.Dec.{leb, ltb, eqb}
+use Rattle.floor.specs.Lists.{all, sameNumbers}
+use Rattle.floor.specs.Jobs.{Entry, Star, Job, test2, test3, Reading, fails, reads, passing, readJob, writeJob}
+use Rattle.floor.specs.Quoted.{plain}
+use Rattle.floor.specs.Texts.{decimal, line, refusedWord, tooLong}
+pub mod Shown
+
+-- ---- writing
+
+-- the four sides, in the order of the kinds
+unfoldable pub sideWords : List (List ℕ)
+sideWords = plain "above" ∷ plain "left" ∷ plain "below" ∷ plain "right" ∷ []
+
+-- the four frame sides, in the order of their numbers
+unfoldable pub frameWords : List (List ℕ)
+frameWords = plain "N" ∷ plain "W" ∷ plain "S" ∷ plain "E" ∷ []
+
+-- a kind, by its side
+unfoldable pub sideWord : ℕ → List ℕ
+sideWord k = getD sideWords k []
+
+-- a vertex: a frame side by its letter, a room by its number
+unfoldable pub vertexWord : ℕ → List ℕ
+vertexWord v = cond (ltb v 4) (getD frameWords v []) (decimal v)
+
+-- a contact: ` above N`
+unfoldable pub contactText : Entry → List ℕ
+contactText e = plain " " ++ (sideWord (e .kind) ++ (plain " " ++ vertexWord (e .to)))
+
+-- the contacts of a room, commas between
+unfoldable pub contactsText : Star → List ℕ
+contactsText [] = []
+contactsText (e ∷ []) = contactText e
+contactsText (e ∷ f ∷ s) = contactText e ++ (plain "," ++ contactsText (f ∷ s))
+
+-- a room's line
+unfoldable pub roomText : ℕ → Star → List ℕ
+roomText r s = decimal r ++ (plain ":" ++ (contactsText s ++ plain "\n"))
+
+-- the lines of the rooms from r on
+unfoldable pub roomsText : ℕ → Job → List ℕ
+roomsText r [] = []
+roomsText r (s ∷ j) = roomText r s ++ roomsText (suc r) j
+
+-- A JOB, AS TEXT
+unfoldable pub jobText : Job → List ℕ
+jobText j = roomsText 4 j
+
+-- ---- reading: words, with blanks between
+
+-- a blank: a space, a tab, or the return that some editors leave at a line's end
+unfoldable pub blank : ℕ → Bool
+blank b = eqb b 32 || eqb b 9 || eqb b 13
+
+-- a letter or a digit
+unfoldable pub letter : ℕ → Bool
+letter b = (leb 48 b && leb b 57) || (leb 65 b && leb b 90) || (leb 97 b && leb b 122)
+
+-- a text without the blanks in front
+unfoldable pub skip : List ℕ → List ℕ
+skip [] = []
+skip (b ∷ t) = cond (blank b) (skip t) (b ∷ t)
+
+-- the word in front of a text
+unfoldable pub word : List ℕ → List ℕ
+word [] = []
+word (b ∷ t) = cond (letter b) (b ∷ word t) []
+
+-- what follows the word in front of a text
+unfoldable pub behindWord : List ℕ → List ℕ
+behindWord [] = []
+behindWord (b ∷ t) = cond (letter b) (behindWord t) (b ∷ t)
+
+-- the next thing behind the word in front of a text
+unfoldable pub next : List ℕ → List ℕ
+next t = skip (behindWord t)
+
+-- a number with a digit more; 256 stands for all that is no number below 256
+unfoldable pub withDigit : ℕ → ℕ → ℕ
+withDigit n b = cond (leb 48 b && leb b 57 && ltb (10 * n + (b - 48)) 256) (10 * n + (b - 48)) 256
+
+-- the digits of a word read behind a number
+unfoldable pub digitsOn : ℕ → List ℕ → ℕ
+digitsOn n [] = n
+digitsOn n (b ∷ w) = digitsOn (withDigit n b) w
+
+-- the number that a word says, below 256; else 256
+unfoldable pub numberOf : List ℕ → ℕ
+numberOf [] = 256
+numberOf (b ∷ w) = digitsOn 0 (b ∷ w)
+
+-- the place at which a word stands among some; behind the last where it does not
+unfoldable pub placeOf : List ℕ → List (List ℕ) → ℕ
+placeOf w [] = 0
+placeOf w (x ∷ xs) = cond (sameNumbers w x) 0 (suc (placeOf w xs))
+
+-- the kind that a word says, below 4; else 4
+unfoldable pub kindOfWord : List ℕ → ℕ
+kindOfWord w = placeOf w sideWords
+
+-- the vertex that a word says, below 256; else 256
+unfoldable pub vertexOfWord : List ℕ → ℕ
+vertexOfWord w = cond (ltb (placeOf w frameWords) 4) (placeOf w frameWords) (numberOf w)
+
+-- ---- reading: lines
+
+-- what should have stood on a line that is wrong
+pub data Expected : Type 0 where
+  roomNumber : ℕ → Expected
+  colon : Expected
+  side : Expected
+  neighbour : Expected
+  comma : Expected
+  noRoom : Expected
+  noContact : Expected
+
+-- what a line comes to: a star, or what should have stood there
+pub data Line : Type 0 where
+  lacks : Expected → Line
+  star : Star → Line
+
+-- a contact in front of those of a line
+unfoldable pub behindContact : Entry → Line → Line
+behindContact e (lacks x) = lacks x
+behindContact e (star s) = star (e ∷ s)
+
+-- what follows a contact: nothing, or a comma and more
+unfoldable pub followed : List ℕ → Line → Line
+followed [] more = star []
+followed (b ∷ t) more = cond (eqb b 44) more (lacks comma)
+
+-- the contacts of a line, no more of them than are left: each a side and a neighbour
+unfoldable pub contacts : ℕ → List ℕ → Line
+contacts zero t = lacks noContact
+contacts (suc left) t =
+    let k : ℕ = kindOfWord (word t) in
+    let v : ℕ = vertexOfWord (word (next t)) in
+    let u : List ℕ = next (next t) in
+    cond (ltb k 4) (cond (ltb v 256) (behindContact (record { to = v; kind = k }) (followed u (contacts left (skip (drop 1 u))))) (lacks neighbour)) (lacks side)
+
+-- the contacts behind a room's colon: none at all, or some
+unfoldable pub anyContacts : ℕ → List ℕ → Line
+anyContacts left [] = star []
+anyContacts left (b ∷ t) = contacts left (b ∷ t)
+
+-- what stands behind a room's number: a colon, and its contacts
+unfoldable pub behindNumber : ℕ → List ℕ → Line
+behindNumber left [] = lacks colon
+behindNumber left (b ∷ t) = cond (eqb b 58) (anyContacts left (skip t)) (lacks colon)
+
+-- the line of room r, no blanks in front: no room above the sixtieth, and each in its turn
+unfoldable pub roomLine : ℕ → ℕ → List ℕ → Line
+roomLine left r t = cond (test2 (r - 3)) (cond (eqb (numberOf (word t)) r) (behindNumber left (next t)) (lacks (roomNumber r))) (lacks noRoom)
+
+-- ---- reading: the whole text
+
+-- a byte in front of the first of some lines
+unfoldable pub longer : ℕ → List (List ℕ) → List (List ℕ)
+longer b [] = (b ∷ []) ∷ []
+longer b (l ∷ ls) = (b ∷ l) ∷ ls
+
+-- the lines of a text
+unfoldable pub lines : List ℕ → List (List ℕ)
+lines [] = [] ∷ []
+lines (b ∷ t) = cond (eqb b 10) ([] ∷ lines t) (longer b (lines t))
+
+-- a line without its comment
+unfoldable pub uncommented : List ℕ → List ℕ
+uncommented [] = []
+uncommented (b ∷ l) = cond (eqb b 35) [] (b ∷ uncommented l)
+
+-- nothing stands there
+unfoldable pub nothing : List ℕ → Bool
+nothing [] = true
+nothing (b ∷ t) = false
+
+-- what a text comes to: a job, or the first wrong line and what should have stood there
+pub data TextRead : Type 0 where
+  wrongLine : ℕ → Expected → TextRead
+  aJob : Job → TextRead
+
+-- a star in front of those of a job
+unfoldable pub behindStar : Star → TextRead → TextRead
+behindStar s (wrongLine i x) = wrongLine i x
+behindStar s (aJob j) = aJob (s ∷ j)
+
+-- line i is wrong, or its star goes on
+unfoldable pub taken : ℕ → Line → (Star → TextRead) → TextRead
+taken i (lacks x) goes = wrongLine i x
+taken i (star s) goes = goes s
+
+-- the lines behind line i, when room r comes next and so many contacts are left; lines with nothing on them do not count
+unfoldable pub readLines : ℕ → ℕ → ℕ → List (List ℕ) → TextRead
+readLines i r left [] = cond (eqb r 4) (wrongLine i (roomNumber 4)) (aJob [])
+readLines i r left (l ∷ ls) =
+    let t : List ℕ = skip (uncommented l) in
+    cond (nothing t) (readLines (suc i) r left ls)
+    (taken (suc i) (roomLine left r t) (λ s. behindStar s (readLines (suc i) (suc r) (left - length s) ls)))
+
+-- A TEXT, READ: rooms from 4 on, 360 contacts at most
+unfoldable pub readText : List ℕ → TextRead
+readText t = readLines 0 4 360 (lines t)
+
+-- ---- what the programs write
+
+-- what should have stood there, in words
+unfoldable pub expectedText : Expected → List ℕ
+expectedText (roomNumber r) = plain "the number of room " ++ decimal r
+expectedText colon = plain "a colon behind the room's number"
+expectedText side = plain "above, left, below or right"
+expectedText neighbour = plain "N, W, S, E or a number up to 255"
+expectedText comma = plain "a comma, or the end of the line"
+expectedText noRoom = plain "no more than 60 rooms"
+expectedText noContact = plain "no more than 360 contacts"
+
+-- every kind is a side
+unfoldable pub sided : Job → Bool
+sided j = all (all (λ e. ltb (e .kind) 4)) j
+
+-- tests 1 to 3, and 4 where a kind is over 3: what passes can be written as text
+unfoldable pub texted : Reading → Reading
+texted (fails k) = fails k
+texted (reads j) = passing (test3 j) 3 (passing (sided j) 4 (reads j))
+
+-- a job that passes as text, or the number of its refusal
+unfoldable pub textAnswer : Reading → List ℕ
+textAnswer (fails k) = refusedWord ++ line (k ∷ [])
+textAnswer (reads j) = jobText j
+
+-- WHAT IS PRINTED FOR THE BYTES OF A JOB
+unfoldable pub textOf : List ℕ → List ℕ
+textOf bs = cond (leb (length bs) 8192) (textAnswer (texted (readJob bs))) tooLong
+
+-- a job's bytes, or `line 3: expected ` and what should have stood there
+unfoldable pub jobAnswer : TextRead → List ℕ
+jobAnswer (wrongLine i x) = plain "line " ++ (decimal i ++ (plain ": expected " ++ (expectedText x ++ plain "\n")))
+jobAnswer (aJob j) = writeJob j
+
+-- WHAT IS PRINTED FOR THE TEXT OF A JOB
+unfoldable pub jobOf : List ℕ → List ℕ
+jobOf t = cond (leb (length t) 16384) (jobAnswer (readText t)) tooLong
