@@ -1,0 +1,5 @@
+mod Numbers
+mod Codes
+mod Calling
+mod Copying
+pub mod Corollaries

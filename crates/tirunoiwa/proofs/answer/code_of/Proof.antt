@@ -1,0 +1,70 @@
+use Rattle.floor.specs.Tracker.{code}
+use Rattle.board.specs.Boards.{replyOf}
+use Rattle.tirunoiwa.proofs.Codes.{says-fits, wrote-fits, code-says, code-wrote}
+use borrow.Author.Needs.{needs}
+use Rattle.tirunoiwa.proofs.answer.code_of.Statement.{statement}
+use Rattle.tirunoiwa.proofs.answer.code_of.Tie as tie
+
+enum-known-reply : tie.Need-enum-known-reply
+enum-known-reply c = search needs
+
+wide-requires : tie.Need-wide-requires
+wide-requires c κs = search needs
+
+enum-told : tie.Need-enum-told
+enum-told c = search needs
+
+enum-told-2 : tie.Need-enum-told-2
+enum-told-2 c = search needs
+
+enum-known-reply-2 : tie.Need-enum-known-reply-2
+enum-known-reply-2 c = search needs
+
+cast-result : tie.Need-cast-result
+cast-result c = search needs
+
+add-result : tie.Need-add-result
+add-result c = says-fits (c .before .reply2 .given .0 .0)
+
+enum-known-reply-3 : tie.Need-enum-known-reply-3
+enum-known-reply-3 c = search needs
+
+add-result-2 : tie.Need-add-result-2
+add-result-2 c = search (wrote-fits, needs)
+
+returns : tie.Need-returns
+unfolding code replyOf
+returns c = search needs
+
+returns-2 : tie.Need-returns-2
+unfolding code replyOf
+returns-2 c = search needs
+
+returns-3 : tie.Need-returns-3
+unfolding code replyOf
+returns-3 c = search needs
+
+returns-4 : tie.Need-returns-4
+returns-4 c = search (code-says, needs)
+
+returns-5 : tie.Need-returns-5
+returns-5 c = search (code-wrote, needs)
+
+pub code-of-spec : {M : Type 1} → statement M
+code-of-spec =
+    tie.close
+    (tie.spec
+    enum-known-reply
+    wide-requires
+    enum-told
+    enum-told-2
+    enum-known-reply-2
+    cast-result
+    add-result
+    enum-known-reply-3
+    add-result-2
+    returns
+    returns-2
+    returns-3
+    returns-4
+    returns-5)

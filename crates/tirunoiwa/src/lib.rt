@@ -1,0 +1,105 @@
+// The planner for other programs: plain functions over a job's bytes. No board is kept between two calls.
+ghost use mathlib.Core.Path.{_≡_};
+ghost use Rattle.floor.specs.Calls.{empty, loads, step};
+ghost use Rattle.floor.specs.Tracker.{planOfJob, turnedOfJob, shareOfJob, starOfJob, code};
+ghost use Rattle.board.specs.Boards.{boardOf};
+use board::Board;
+
+mod answer; // answer.rt: an answer as one number
+mod front; // front.rt: bytes put to the front of a lent buffer
+
+// An answer from here on is no refusal.
+const FIRST_VALUE: usize = 256;
+
+// The refusal where the output buffer is too short.
+const TOO_SHORT: usize = 14;
+
+// A job's bytes loaded: the answer as one number, and the board.
+struct Loaded {
+    answer: usize,
+    board: Board,
+}
+
+// A job's bytes loaded onto an empty board.
+fn load(job: &[u8]) -> Loaded
+    ensures { λ r. ⌜ (r .answer ≡ code (step empty (loads (now (job .entry))) .reply))
+        × (boardOf (r .board) ≡ step empty (loads (now (job .entry))) .board) ⌝ }
+{
+    let none = board::empty();
+    let loaded = none.load(job);
+    let held = loaded.board;
+    let reply = loaded.reply;
+    let answer = answer::code_of(reply);
+    Loaded {
+        answer: answer,
+        board: held,
+    }
+}
+
+// The plan of a job, written to a lent buffer.
+#[no_mangle]
+pub extern "C" fn tirunoiwa_plan(job: &[u8], out: &mut [u8]) -> usize
+    ensures { λ r. ⌜ (r ≡ code (planOfJob (now (job .entry)) (now (out .entry)) .reply))
+        × (now (out .exit) ≡ planOfJob (now (job .entry)) (now (out .entry)) .buffer) ⌝ }
+{
+    let loaded = load(job);
+    if loaded.answer < FIRST_VALUE {
+        return loaded.answer;
+    }
+    let held = loaded.board;
+    let written = held.write_plan(out);
+    let reply = written.reply;
+    answer::code_of(reply)
+}
+
+// The job with a contact turned, written to a lent buffer.
+#[no_mangle]
+pub extern "C" fn tirunoiwa_turned(job: &[u8], u: usize, v: usize, out: &mut [u8]) -> usize
+    ensures { λ r. ⌜ (r ≡ code (turnedOfJob (now (job .entry)) u v (now (out .entry)) .reply))
+        × (now (out .exit) ≡ turnedOfJob (now (job .entry)) u v (now (out .entry)) .buffer) ⌝ }
+{
+    let loaded = load(job);
+    if loaded.answer < FIRST_VALUE {
+        return loaded.answer;
+    }
+    let held = loaded.board;
+    let turned = held.turn(u, v);
+    let next = turned.board;
+    let reply = turned.reply;
+    let answer = answer::code_of(reply);
+    if answer < FIRST_VALUE {
+        return answer;
+    }
+    let written = next.write_job(out);
+    let last = written.reply;
+    answer::code_of(last)
+}
+
+// The star of a room in a job's bytes, written to a lent buffer.
+#[no_mangle]
+pub extern "C" fn tirunoiwa_star(job: &[u8], room: usize, out: &mut [u8]) -> usize
+    ensures { λ r. ⌜ (r ≡ code (starOfJob (now (job .entry)) room (now (out .entry)) .reply))
+        × (now (out .exit) ≡ starOfJob (now (job .entry)) room (now (out .entry)) .buffer) ⌝ }
+{
+    let star = jobs::raw_star(job, room);
+    if out.len() < star.len() {
+        return TOO_SHORT;
+    }
+    front::put_front(out, star);
+    FIRST_VALUE + star.len()
+}
+
+// Whether two vertices of a job share a wall length of at least 1.
+#[no_mangle]
+pub extern "C" fn tirunoiwa_share(job: &[u8], u: usize, v: usize) -> usize
+    ensures { λ r. ⌜ r ≡ code (shareOfJob (now (job .entry)) u v .reply) ⌝ }
+{
+    let loaded = load(job);
+    if loaded.answer < FIRST_VALUE {
+        return loaded.answer;
+    }
+    let held = loaded.board;
+    let said = held.shares(u, v);
+    let reply = said.reply;
+    answer::code_of(reply)
+}

@@ -1,0 +1,116 @@
+//! The zone planner for Rust programs: safe functions over the proved static library. No state is kept between two calls.
+//!
+//! `plan_into`, `turned_into` and `star_into` write to a lent buffer and tell the length: the front is filled, what lies behind stays as it was, and a
+//! refusal leaves every byte. `plan`, `turned` and `star` bring a buffer that always suffices.
+
+/// The number of a refusal, 1 to 14.
+#[derive(Clone, Copy, Debug, PartialEq, Eq)]
+pub struct Refusal(pub u8);
+
+/// No plan is longer: a sheet and 64 rectangles.
+pub const PLAN_MOST: usize = 5 + 64 * 8;
+
+/// No accepted job is longer: 60 stars of 360 pairs.
+pub const JOB_MOST: usize = 4 + 60 * 3 + 360 * 2;
+
+/// From here on an answer is no refusal.
+const FIRST_VALUE: usize = 256;
+
+/// The functions as the library has them: a slice is a pointer and a length.
+mod library {
+    extern "C" {
+        pub fn tirunoiwa_plan(
+            job: *const u8,
+            job_length: usize,
+            out: *mut u8,
+            out_length: usize,
+        ) -> usize;
+
+        pub fn tirunoiwa_turned(
+            job: *const u8,
+            job_length: usize,
+            u: usize,
+            v: usize,
+            out: *mut u8,
+            out_length: usize,
+        ) -> usize;
+
+        pub fn tirunoiwa_star(
+            job: *const u8,
+            job_length: usize,
+            room: usize,
+            out: *mut u8,
+            out_length: usize,
+        ) -> usize;
+
+        pub fn tirunoiwa_share(job: *const u8, job_length: usize, u: usize, v: usize) -> usize;
+    }
+}
+
+/// The plan of a job.
+pub fn plan(job: &[u8]) -> Result<Vec<u8>, Refusal> {
+    written(PLAN_MOST, |out| plan_into(job, out))
+}
+
+/// The job with the contact of two rooms turned.
+pub fn turned(job: &[u8], u: usize, v: usize) -> Result<Vec<u8>, Refusal> {
+    written(JOB_MOST, |out| turned_into(job, u, v, out))
+}
+
+/// The bytes of a room's star; none where the bytes fail test 1 or 2 or have no such room.
+pub fn star(job: &[u8], room: usize) -> Vec<u8> {
+    let bytes = written(job.len(), |out| star_into(job, room, out));
+    bytes.expect("a star is a part of the job, so a buffer as long as the job is never too short")
+}
+
+/// Whether two vertices share a wall length of at least 1.
+pub fn share(job: &[u8], u: usize, v: usize) -> Result<bool, Refusal> {
+    // SAFETY: `job` is a slice, so its pointer is not null and valid for its length, and is only read.
+    let answer = unsafe { library::tirunoiwa_share(job.as_ptr(), job.len(), u, v) };
+    Ok(value(answer)? == 1)
+}
+
+/// The plan of a job, written to the front of a lent buffer.
+pub fn plan_into(job: &[u8], out: &mut [u8]) -> Result<usize, Refusal> {
+    // SAFETY: both are slices, so the pointers are not null and valid for the lengths; `out` is lent alone, so `job` does not overlap it.
+    let answer =
+        unsafe { library::tirunoiwa_plan(job.as_ptr(), job.len(), out.as_mut_ptr(), out.len()) };
+    value(answer)
+}
+
+/// The job with the contact of two rooms turned, written to the front of a lent buffer.
+pub fn turned_into(job: &[u8], u: usize, v: usize, out: &mut [u8]) -> Result<usize, Refusal> {
+    // SAFETY: both are slices, so the pointers are not null and valid for the lengths; `out` is lent alone, so `job` does not overlap it.
+    let answer = unsafe {
+        library::tirunoiwa_turned(job.as_ptr(), job.len(), u, v, out.as_mut_ptr(), out.len())
+    };
+    value(answer)
+}
+
+/// The bytes of a room's star, written to the front of a lent buffer; refused, by 14, only where that is too short.
+pub fn star_into(job: &[u8], room: usize, out: &mut [u8]) -> Result<usize, Refusal> {
+    // SAFETY: both are slices, so the pointers are not null and valid for the lengths; `out` is lent alone, so `job` does not overlap it.
+    let answer = unsafe {
+        library::tirunoiwa_star(job.as_ptr(), job.len(), room, out.as_mut_ptr(), out.len())
+    };
+    value(answer)
+}
+
+/// What an answer says: a refusal's number, or the value behind it.
+fn value(answer: usize) -> Result<usize, Refusal> {
+    match answer.checked_sub(FIRST_VALUE) {
+        Some(value) => Ok(value),
+        None => Err(Refusal(answer as u8)),
+    }
+}
+
+/// What is written to a buffer of this length, and no more.
+fn written(
+    most: usize,
+    write: impl FnOnce(&mut [u8]) -> Result<usize, Refusal>,
+) -> Result<Vec<u8>, Refusal> {
+    let mut bytes = vec![0; most];
+    let length = write(&mut bytes)?;
+    bytes.truncate(length);
+    Ok(bytes)
+}

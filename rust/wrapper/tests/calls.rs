@@ -1,0 +1,156 @@
+//! Calls each function of the static library from Rust. Every byte of a lent buffer is looked at, behind what was written too.
+
+use tirunoiwa::{plan, plan_into, share, star, star_into, turned, turned_into, Refusal};
+use tirunoiwa::{JOB_MOST, PLAN_MOST};
+
+const MOST: usize = 1024;
+
+/// The floor F of document 01.
+const F: &[u8] = &[
+    1, 0, 1, 4, // four rooms
+    2, 0, 8, 0, 0, 1, 1, 6, 2, 5, 3, // 4
+    2, 0, 10, 0, 0, 4, 1, 6, 1, 7, 2, 3, 3, // 5
+    2, 0, 10, 4, 0, 1, 1, 2, 2, 7, 3, 5, 3, // 6
+    2, 0, 8, 5, 0, 6, 1, 2, 2, 3, 3, // 7
+];
+
+const F_PLAN: &[u8] = &[
+    3, 0, 2, 4, 5, // the sheet
+    4, 0, 5, 0, 1, 4, 3, 5, // N
+    4, 0, 5, 1, 0, 0, 1, 5, // W
+    4, 0, 5, 2, 1, 0, 3, 1, // S
+    4, 0, 5, 3, 3, 0, 4, 5, // E
+    4, 0, 5, 4, 1, 3, 2, 4, // 4
+    4, 0, 5, 5, 2, 2, 3, 4, // 5
+    4, 0, 5, 6, 1, 1, 2, 3, // 6
+    4, 0, 5, 7, 2, 1, 3, 2, // 7
+];
+
+/// F with the contact of 5 and 6 turned.
+const P9: &[u8] = &[
+    1, 0, 1, 4, // four rooms
+    2, 0, 8, 0, 0, 1, 1, 6, 2, 5, 3, // 4
+    2, 0, 10, 0, 0, 4, 1, 6, 2, 7, 2, 3, 3, // 5
+    2, 0, 10, 5, 0, 4, 0, 1, 1, 2, 2, 7, 3, // 6
+    2, 0, 8, 5, 0, 6, 1, 2, 2, 3, 3, // 7
+];
+
+const P9_PLAN: &[u8] = &[
+    3, 0, 2, 5, 4, // the sheet
+    4, 0, 5, 0, 1, 3, 4, 4, // N
+    4, 0, 5, 1, 0, 0, 1, 4, // W
+    4, 0, 5, 2, 1, 0, 4, 1, // S
+    4, 0, 5, 3, 4, 0, 5, 4, // E
+    4, 0, 5, 4, 1, 2, 2, 3, // 4
+    4, 0, 5, 5, 2, 2, 4, 3, // 5
+    4, 0, 5, 6, 1, 1, 3, 2, // 6
+    4, 0, 5, 7, 3, 1, 4, 2, // 7
+];
+
+/// No rooms.
+const P2: &[u8] = &[1, 0, 1, 0];
+
+/// No bytes.
+const P3: &[u8] = &[];
+
+/// F without the contact of 5 and 6.
+const P10: &[u8] = &[
+    1, 0, 1, 4, // four rooms
+    2, 0, 8, 0, 0, 1, 1, 6, 2, 5, 3, // 4
+    2, 0, 8, 0, 0, 4, 1, 7, 2, 3, 3, // 5
+    2, 0, 8, 4, 0, 1, 1, 2, 2, 7, 3, // 6
+    2, 0, 8, 5, 0, 6, 1, 2, 2, 3, 3, // 7
+];
+
+const STAR_6: &[u8] = &[4, 0, 1, 1, 2, 2, 7, 3, 5, 3];
+
+/// What stands in the buffer before a call.
+fn before() -> [u8; MOST] {
+    std::array::from_fn(|place| (place * 7 + 161) as u8)
+}
+
+/// A call on the first bytes of a buffer fills its front with these bytes, and touches nothing behind them.
+fn fills(length: usize, bytes: &[u8], call: impl FnOnce(&mut [u8]) -> Result<usize, Refusal>) {
+    let mut lent = before();
+    assert_eq!(call(&mut lent[..length]), Ok(bytes.len()));
+    assert_eq!(&lent[..bytes.len()], bytes);
+    assert_eq!(lent[bytes.len()..], before()[bytes.len()..]);
+}
+
+/// A call on the first bytes of a buffer is refused, and every byte is as it was.
+fn refuses(length: usize, number: u8, call: impl FnOnce(&mut [u8]) -> Result<usize, Refusal>) {
+    let mut lent = before();
+    assert_eq!(call(&mut lent[..length]), Err(Refusal(number)));
+    assert_eq!(lent, before());
+}
+
+#[test]
+fn plans_are_written() {
+    fills(MOST, F_PLAN, |out| plan_into(F, out));
+    fills(F_PLAN.len(), F_PLAN, |out| plan_into(F, out));
+    fills(PLAN_MOST, P9_PLAN, |out| plan_into(P9, out));
+    assert_eq!(plan(F), Ok(F_PLAN.to_vec()));
+    assert_eq!(plan(P9), Ok(P9_PLAN.to_vec()));
+}
+
+#[test]
+fn plans_are_refused() {
+    refuses(F_PLAN.len() - 1, 14, |out| plan_into(F, out));
+    refuses(0, 14, |out| plan_into(F, out));
+    refuses(MOST, 2, |out| plan_into(P2, out));
+    refuses(MOST, 1, |out| plan_into(P3, out));
+    refuses(MOST, 9, |out| plan_into(P10, out));
+    refuses(0, 9, |out| plan_into(P10, out));
+    assert_eq!(plan(P2), Err(Refusal(2)));
+    assert_eq!(plan(P3), Err(Refusal(1)));
+    assert_eq!(plan(P10), Err(Refusal(9)));
+}
+
+#[test]
+fn turned_jobs_are_written() {
+    fills(MOST, P9, |out| turned_into(F, 5, 6, out));
+    fills(JOB_MOST, P9, |out| turned_into(F, 6, 5, out));
+    fills(F.len(), F, |out| turned_into(P9, 5, 6, out));
+    assert_eq!(turned(F, 5, 6), Ok(P9.to_vec()));
+    assert_eq!(turned(P9, 6, 5), Ok(F.to_vec()));
+}
+
+#[test]
+fn turns_are_refused() {
+    refuses(P9.len() - 1, 14, |out| turned_into(F, 5, 6, out));
+    refuses(MOST, 12, |out| turned_into(F, 4, 5, out));
+    refuses(MOST, 11, |out| turned_into(F, 4, 0, out));
+    refuses(0, 12, |out| turned_into(F, 4, 5, out));
+    refuses(MOST, 1, |out| turned_into(P3, 5, 6, out));
+    refuses(MOST, 9, |out| turned_into(P10, 5, 6, out));
+    refuses(MOST, 11, |out| turned_into(F, usize::MAX, 5, out));
+    assert_eq!(turned(F, 4, 5), Err(Refusal(12)));
+    assert_eq!(turned(F, 4, 0), Err(Refusal(11)));
+}
+
+#[test]
+fn stars_are_written() {
+    fills(MOST, STAR_6, |out| star_into(F, 6, out));
+    fills(STAR_6.len(), STAR_6, |out| star_into(F, 6, out));
+    fills(MOST, &[], |out| star_into(F, 3, out));
+    fills(MOST, &[], |out| star_into(F, 8, out));
+    fills(MOST, &[], |out| star_into(F, usize::MAX, out));
+    fills(0, &[], |out| star_into(P3, 4, out));
+    fills(MOST, &[], |out| star_into(P2, 4, out));
+    refuses(STAR_6.len() - 1, 14, |out| star_into(F, 6, out));
+    assert_eq!(star(F, 6), STAR_6);
+    assert_eq!(star(F, 8), []);
+    assert_eq!(star(P3, 4), []);
+}
+
+#[test]
+fn shared_walls_are_told() {
+    assert_eq!(share(F, 5, 6), Ok(true));
+    assert_eq!(share(F, 0, 1), Ok(true));
+    assert_eq!(share(F, 4, 7), Ok(false));
+    assert_eq!(share(F, 5, 5), Ok(false));
+    assert_eq!(share(F, 5, 8), Err(Refusal(13)));
+    assert_eq!(share(F, usize::MAX, usize::MAX), Err(Refusal(13)));
+    assert_eq!(share(P3, 5, 6), Err(Refusal(1)));
+    assert_eq!(share(P10, 5, 8), Err(Refusal(9)));
+}

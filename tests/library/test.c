@@ -1,0 +1,188 @@
+/* Calls each function of the static library from C. Every byte of a lent buffer is looked at, behind what was written too. */
+#include "tirunoiwa.h"
+
+#include <stdio.h>
+#include <string.h>
+
+#define MOST 1024
+#define SIZE(array) (sizeof(array) / sizeof((array)[0]))
+
+/* The floor F of document 01, its plan, F with the contact of 5 and 6 turned (P9), and the plan of that. */
+static const uint8_t F[] = {
+    1, 0, 1, 4,
+    2, 0, 8, 0, 0, 1, 1, 6, 2, 5, 3,
+    2, 0, 10, 0, 0, 4, 1, 6, 1, 7, 2, 3, 3,
+    2, 0, 10, 4, 0, 1, 1, 2, 2, 7, 3, 5, 3,
+    2, 0, 8, 5, 0, 6, 1, 2, 2, 3, 3,
+};
+static const uint8_t F_PLAN[] = {
+    3, 0, 2, 4, 5,
+    4, 0, 5, 0, 1, 4, 3, 5,
+    4, 0, 5, 1, 0, 0, 1, 5,
+    4, 0, 5, 2, 1, 0, 3, 1,
+    4, 0, 5, 3, 3, 0, 4, 5,
+    4, 0, 5, 4, 1, 3, 2, 4,
+    4, 0, 5, 5, 2, 2, 3, 4,
+    4, 0, 5, 6, 1, 1, 2, 3,
+    4, 0, 5, 7, 2, 1, 3, 2,
+};
+static const uint8_t P9[] = {
+    1, 0, 1, 4,
+    2, 0, 8, 0, 0, 1, 1, 6, 2, 5, 3,
+    2, 0, 10, 0, 0, 4, 1, 6, 2, 7, 2, 3, 3,
+    2, 0, 10, 5, 0, 4, 0, 1, 1, 2, 2, 7, 3,
+    2, 0, 8, 5, 0, 6, 1, 2, 2, 3, 3,
+};
+static const uint8_t P9_PLAN[] = {
+    3, 0, 2, 5, 4,
+    4, 0, 5, 0, 1, 3, 4, 4,
+    4, 0, 5, 1, 0, 0, 1, 4,
+    4, 0, 5, 2, 1, 0, 4, 1,
+    4, 0, 5, 3, 4, 0, 5, 4,
+    4, 0, 5, 4, 1, 2, 2, 3,
+    4, 0, 5, 5, 2, 2, 4, 3,
+    4, 0, 5, 6, 1, 1, 3, 2,
+    4, 0, 5, 7, 3, 1, 4, 2,
+};
+/* No rooms; no bytes; F without the contact of 5 and 6. */
+static const uint8_t P2[] = {1, 0, 1, 0};
+static const uint8_t P3[] = {0};
+static const uint8_t P10[] = {
+    1, 0, 1, 4,
+    2, 0, 8, 0, 0, 1, 1, 6, 2, 5, 3,
+    2, 0, 8, 0, 0, 4, 1, 7, 2, 3, 3,
+    2, 0, 8, 4, 0, 1, 1, 2, 2, 7, 3,
+    2, 0, 8, 5, 0, 6, 1, 2, 2, 3, 3,
+};
+static const uint8_t STAR_6[] = {4, 0, 1, 1, 2, 2, 7, 3, 5, 3};
+
+static uint8_t lent[MOST];
+static unsigned calls = 0;
+static unsigned wrong = 0;
+
+/* What stood at a place of the buffer before the call. */
+static uint8_t before(size_t place)
+{
+    return (uint8_t)(place * 7 + 161);
+}
+
+static uint8_t *lend(void)
+{
+    for (size_t i = 0; i < MOST; i++) {
+        lent[i] = before(i);
+    }
+    return lent;
+}
+
+static void complain(const char *what, const char *how, size_t answer)
+{
+    fprintf(stderr, "library: %s: %s, the answer is %zu\n", what, how, answer);
+    wrong++;
+}
+
+/* The answer, the front of the buffer, and everything behind it. */
+static void expect(const char *what, size_t answer, size_t wanted, const uint8_t *front, size_t length)
+{
+    calls++;
+    if (answer != wanted) {
+        complain(what, "not the answer", answer);
+    }
+    if (length != 0 && memcmp(lent, front, length) != 0) {
+        complain(what, "not the bytes", answer);
+    }
+    for (size_t i = length; i < MOST; i++) {
+        if (lent[i] != before(i)) {
+            complain(what, "a byte behind was touched", answer);
+            break;
+        }
+    }
+}
+
+static void wrote(const char *what, size_t answer, const uint8_t *bytes, size_t length)
+{
+    expect(what, answer, 256 + length, bytes, length);
+    if (tirunoiwa_refused(answer) != 0 || tirunoiwa_value(answer) != length) {
+        complain(what, "not told by the helpers", answer);
+    }
+}
+
+static void refused(const char *what, size_t answer, unsigned number)
+{
+    expect(what, answer, number, NULL, 0);
+    if (tirunoiwa_refused(answer) != number) {
+        complain(what, "not told by the helper", answer);
+    }
+}
+
+static void says(const char *what, size_t answer, size_t yes)
+{
+    calls++;
+    if (tirunoiwa_refused(answer) != 0 || tirunoiwa_value(answer) != yes) {
+        complain(what, "not the answer", answer);
+    }
+}
+
+static void plans(void)
+{
+    wrote("F planned", tirunoiwa_plan(F, SIZE(F), lend(), MOST), F_PLAN, SIZE(F_PLAN));
+    wrote("F planned, no byte to spare", tirunoiwa_plan(F, SIZE(F), lend(), SIZE(F_PLAN)), F_PLAN, SIZE(F_PLAN));
+    wrote("P9 planned", tirunoiwa_plan(P9, SIZE(P9), lend(), TIRUNOIWA_PLAN_MOST), P9_PLAN, SIZE(P9_PLAN));
+    refused("F planned, a byte too short", tirunoiwa_plan(F, SIZE(F), lend(), SIZE(F_PLAN) - 1), 14);
+    refused("F planned into no bytes", tirunoiwa_plan(F, SIZE(F), lend(), 0), 14);
+    refused("P2", tirunoiwa_plan(P2, SIZE(P2), lend(), MOST), 2);
+    refused("P3", tirunoiwa_plan(P3, 0, lend(), MOST), 1);
+    refused("P10", tirunoiwa_plan(P10, SIZE(P10), lend(), MOST), 9);
+    refused("P10 before a short buffer", tirunoiwa_plan(P10, SIZE(P10), lend(), 0), 9);
+}
+
+static void turns(void)
+{
+    wrote("P9", tirunoiwa_turned(F, SIZE(F), 5, 6, lend(), MOST), P9, SIZE(P9));
+    wrote("P9, named the other way", tirunoiwa_turned(F, SIZE(F), 6, 5, lend(), TIRUNOIWA_JOB_MOST), P9, SIZE(P9));
+    wrote("P9 turned again", tirunoiwa_turned(P9, SIZE(P9), 5, 6, lend(), SIZE(F)), F, SIZE(F));
+    refused("P9, a byte too short", tirunoiwa_turned(F, SIZE(F), 5, 6, lend(), SIZE(P9) - 1), 14);
+    refused("P11", tirunoiwa_turned(F, SIZE(F), 4, 5, lend(), MOST), 12);
+    refused("P12", tirunoiwa_turned(F, SIZE(F), 4, 0, lend(), MOST), 11);
+    refused("P11 before a short buffer", tirunoiwa_turned(F, SIZE(F), 4, 5, lend(), 0), 12);
+    refused("no job turned", tirunoiwa_turned(P3, 0, 5, 6, lend(), MOST), 1);
+    refused("P10 turned", tirunoiwa_turned(P10, SIZE(P10), 5, 6, lend(), MOST), 9);
+    refused("a turn of no vertex", tirunoiwa_turned(F, SIZE(F), SIZE_MAX, 5, lend(), MOST), 11);
+}
+
+static void stars(void)
+{
+    wrote("star of 6", tirunoiwa_star(F, SIZE(F), 6, lend(), MOST), STAR_6, SIZE(STAR_6));
+    wrote("star of 6, no byte to spare", tirunoiwa_star(F, SIZE(F), 6, lend(), SIZE(STAR_6)), STAR_6, SIZE(STAR_6));
+    refused("star of 6, a byte too short", tirunoiwa_star(F, SIZE(F), 6, lend(), SIZE(STAR_6) - 1), 14);
+    wrote("star of a frame side", tirunoiwa_star(F, SIZE(F), 3, lend(), MOST), NULL, 0);
+    wrote("star of no room", tirunoiwa_star(F, SIZE(F), 8, lend(), MOST), NULL, 0);
+    wrote("star of the last number", tirunoiwa_star(F, SIZE(F), SIZE_MAX, lend(), MOST), NULL, 0);
+    wrote("star in no job, into no bytes", tirunoiwa_star(P3, 0, 4, lend(), 0), NULL, 0);
+    wrote("star in P2", tirunoiwa_star(P2, SIZE(P2), 4, lend(), MOST), NULL, 0);
+}
+
+static void shares(void)
+{
+    says("5 and 6 of F share", tirunoiwa_share(F, SIZE(F), 5, 6), 1);
+    says("N and W share", tirunoiwa_share(F, SIZE(F), 0, 1), 1);
+    says("4 and 7 of F do not", tirunoiwa_share(F, SIZE(F), 4, 7), 0);
+    says("one vertex does not", tirunoiwa_share(F, SIZE(F), 5, 5), 0);
+    lend();
+    refused("no such vertex", tirunoiwa_share(F, SIZE(F), 5, 8), 13);
+    refused("no such vertex, twice", tirunoiwa_share(F, SIZE(F), SIZE_MAX, SIZE_MAX), 13);
+    refused("shared in no job", tirunoiwa_share(P3, 0, 5, 6), 1);
+    refused("shared in P10", tirunoiwa_share(P10, SIZE(P10), 5, 8), 9);
+}
+
+int main(void)
+{
+    plans();
+    turns();
+    stars();
+    shares();
+    if (wrong != 0) {
+        return 1;
+    }
+    printf("library: %u calls from C are answered as written, every byte looked at\n", calls);
+    return 0;
+}
