@@ -9,6 +9,7 @@ use Rattle.floor.specs.Jobs.{Entry, Star, Job, test2, test3, Reading, fa
 use Rattle.floor.specs.Quoted.{plain}
 use Rattle.floor.specs.Texts.{decimal, line, refusedWord, tooLong}
 pub mod Shown
+pub mod Back
 
 -- ---- writing
 
