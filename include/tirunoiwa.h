@@ -13,8 +13,10 @@
  *    7  walls run in a circle
  * From 256 on it is 256 plus a value: the number of bytes written, or 1 for yes and 0 for no.
  *
- * The caller owes: each pointer is not null, even where its length is 0, and valid for its length; `out` overlaps no `job`, and no one else reads or
- * writes it during the call. Bytes of `out` behind those that were written stay as they were.
+ * Bytes of `out` behind those that were written stay as they were.
+ *
+ * The caller owes: each pointer is not null, even where its length is 0, and valid for its length, and a length is below 2^63; `job` and `out` do not
+ * overlap; during the call nobody else writes `job`, or reads or writes `out`. A call was measured to run within 256 KiB of stack.
  */
 #ifndef TIRUNOIWA_H
 #define TIRUNOIWA_H
@@ -26,10 +28,9 @@
 extern "C" {
 #endif
 
-/* Buffers that always suffice: for a plan, a sheet and 64 rectangles; for a job, 60 stars of 360 pairs; for a star, two bytes of length, even. */
+/* Buffers that always suffice: for a plan, a sheet and 64 rectangles; for a turned job, 60 stars of 360 pairs. A star is never longer than its job. */
 #define TIRUNOIWA_PLAN_MOST (5 + 64 * 8)
 #define TIRUNOIWA_JOB_MOST (4 + 60 * 3 + 360 * 2)
-#define TIRUNOIWA_STAR_MOST 65534
 
 /* Reads a job and writes its plan to the front of `out`. Answers 256 + the plan's length, or 1 to 9, 14. */
 size_t tirunoiwa_plan(const uint8_t *job, size_t job_length, uint8_t *out, size_t out_length);

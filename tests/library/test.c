@@ -135,6 +135,42 @@ static void plans(void)
     refused("P10 before a short buffer", tirunoiwa_plan(P10, SIZE(P10), lend(), 0), 9);
 }
 
+static uint8_t *put_bytes(uint8_t *at, const uint8_t *bytes, size_t length)
+{
+    memcpy(at, bytes, length);
+    return at + length;
+}
+
+/* The greatest plan: sixty rooms in a row, between W and E. */
+static void row_of_sixty(void)
+{
+    static uint8_t job[TIRUNOIWA_JOB_MOST];
+    static uint8_t plan[TIRUNOIWA_PLAN_MOST];
+    static const uint8_t sheet_and_frame[] = {
+        3, 0, 2, 62, 3,
+        4, 0, 5, 0, 1, 2, 61, 3,
+        4, 0, 5, 1, 0, 0, 1, 3,
+        4, 0, 5, 2, 1, 0, 61, 1,
+        4, 0, 5, 3, 61, 0, 62, 3,
+    };
+    static const uint8_t rooms[] = {1, 0, 1, 60};
+    uint8_t *job_end = put_bytes(job, rooms, SIZE(rooms));
+    uint8_t *plan_end = put_bytes(plan, sheet_and_frame, SIZE(sheet_and_frame));
+    for (uint8_t v = 4; v < 64; v++) {
+        const uint8_t left = v == 4 ? 1 : (uint8_t)(v - 1);
+        const uint8_t right = v == 63 ? 3 : (uint8_t)(v + 1);
+        const uint8_t star[] = {2, 0, 8, 0, 0, left, 1, 2, 2, right, 3};
+        const uint8_t rectangle[] = {4, 0, 5, v, (uint8_t)(v - 3), 1, (uint8_t)(v - 2), 2};
+        job_end = put_bytes(job_end, star, SIZE(star));
+        plan_end = put_bytes(plan_end, rectangle, SIZE(rectangle));
+    }
+    const size_t job_length = (size_t)(job_end - job);
+    const size_t length = (size_t)(plan_end - plan);
+    wrote("sixty rooms in a row", tirunoiwa_plan(job, job_length, lend(), TIRUNOIWA_PLAN_MOST), plan, length);
+    refused("sixty rooms, a byte too short", tirunoiwa_plan(job, job_length, lend(), TIRUNOIWA_PLAN_MOST - 1), 14);
+    refused("a row turned", tirunoiwa_turned(job, job_length, 4, 5, lend(), MOST), 12);
+}
+
 static void turns(void)
 {
     wrote("P9", tirunoiwa_turned(F, SIZE(F), 5, 6, lend(), MOST), P9, SIZE(P9));
@@ -177,6 +213,7 @@ static void shares(void)
 int main(void)
 {
     plans();
+    row_of_sixty();
     turns();
     stars();
     shares();

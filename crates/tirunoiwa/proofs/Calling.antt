@@ -32,17 +32,23 @@ behind-goes (spans r) b c n h = refl
 behind-goes (says t) b c n h = refl
 behind-goes (wrote n) b c m h = refl
 
-behind-numbered : (r : Reply) (b : Board) (c : Call) → Numbered r → Numbered (behind r b c .reply)
+-- what any answer of the call has, and the refusal before it, the answer behind has
+behind-any : (c : Call) (P : Reply → Type 0) → ((b : Board) → P (step b c .reply)) → (r : Reply) (b : Board) → ((k : ℕ) → r ≡ refusal k → P (refusal k))
+    → P (behind r b c .reply)
 unfolding behind refuse
-behind-numbered (refusal k) b c n = n
-behind-numbered done b c n = step-numbered b c
-behind-numbered (spans r) b c n = step-numbered b c
-behind-numbered (says t) b c n = step-numbered b c
-behind-numbered (wrote m) b c n = step-numbered b c
+behind-any c P f (refusal k) b h = h k refl
+behind-any c P f done b h = f b
+behind-any c P f (spans r) b h = f b
+behind-any c P f (says t) b h = f b
+behind-any c P f (wrote n) b h = f b
+
+pub then-any : (s : Step) (c : Call) (P : Reply → Type 0) → ((b : Board) → P (step b c .reply)) → ((k : ℕ) → s .reply ≡ refusal k → P (refusal k))
+    → P (then s c .reply)
+unfolding then
+then-any s c P f h = behind-any c P f (s .reply) (s .board) h
 
 pub then-numbered : (s : Step) (c : Call) → Numbered (s .reply) → Numbered (then s c .reply)
-unfolding then
-then-numbered s c n = behind-numbered (s .reply) (s .board) c n
+then-numbered s c n = then-any s c Numbered (λ b. step-numbered b c) (λ k e. rw e at n)
 
 -- the answer as one number, and a board that holds what is left
 abbrev Left : HeldBoard → ℕ → Step → Type 0

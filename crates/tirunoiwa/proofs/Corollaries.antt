@@ -1,12 +1,20 @@
 -- What follows from the promises of the library's functions. Assumes nothing.
 use Prim.Native.Nat.{ℕ, _+_, _≤_, _<_}
-use mathlib.Core.Path.{_≡_, sym, _∙_}
+use mathlib.Core.Path.{_≡_, refl, sym, ap, _∙_}
+use mathlib.Core.Logic.{_↔_}
+use mathlib.Core.Bool.{Bool, true, false, cond}
 use mathlib.Core.List.{List}
 use native.Mathlib.Omega.{arith}
-use Rattle.floor.specs.Calls.{empty, loads, turns, shares, writesJob, writesPlan, Reply, refusal, done, spans, says, wrote, Step, step}
-use Rattle.floor.specs.Tracker.{then, planOfJob, turnedOfJob, shareOfJob, starOfJob, code}
-use Rattle.tirunoiwa.proofs.Numbers.{Numbered, step-numbered}
-use Rattle.tirunoiwa.proofs.Calling.{then-numbered}
+use borrow.Author.Tests.{leb-true}
+use lib.ListN.{length}
+use Rattle.floor.specs.Jobs.{writeJob, rawStar}
+use Rattle.floor.specs.Plans.{writePlan}
+use Rattle.floor.specs.Calls.{Board, empty, holding, Call, loads, turns, shares, writesJob, writesPlan, Reply, refusal, done, spans, says, wrote}
+use Rattle.floor.specs.Calls.{Step, lent, refuse, asks, writes, step}
+use Rattle.floor.specs.Calls.Effects.{refused-leaves}
+use Rattle.floor.specs.Tracker.{behind, then, planOfJob, turnedOfJob, shareOfJob, starOfJob, code}
+use Rattle.tirunoiwa.proofs.Numbers.{same-refusal, Numbered, step-numbered, writes-told}
+use Rattle.tirunoiwa.proofs.Calling.{then-any, then-numbered}
 
 -- ---- one answer
 
@@ -14,22 +22,179 @@ use Rattle.tirunoiwa.proofs.Calling.{then-numbered}
 abbrev pub Promised : Step → ℕ → List ℕ → Type 0
 Promised s r x = (r ≡ code (s .reply)) × (x ≡ s .buffer)
 
-same : (s : Step) (r t : ℕ) (x y : List ℕ) → Promised s r x → Promised s t y → (r ≡ t) × (x ≡ y)
-same s r t x y p q = (p .0 ∙ sym (q .0), p .1 ∙ sym (q .1))
+one : (s : Step) (r t : ℕ) (x y : List ℕ) → Promised s r x → Promised s t y → (r ≡ t) × (x ≡ y)
+one s r t x y p q = (p .0 ∙ sym (q .0), p .1 ∙ sym (q .1))
 
 module _ (bs buf : List ℕ) (r t : ℕ) (x y : List ℕ) where
   -- THE PROMISE OF `tirunoiwa_plan` ALLOWS ONE ANSWER AND ONE BUFFER
   pub one-plan : Promised (planOfJob bs buf) r x → Promised (planOfJob bs buf) t y → (r ≡ t) × (x ≡ y)
-  one-plan = same (planOfJob bs buf) r t x y
+  one-plan = one (planOfJob bs buf) r t x y
 
   -- THE PROMISE OF `tirunoiwa_turned` ALLOWS ONE ANSWER AND ONE BUFFER
   pub one-turned : (u v : ℕ) → Promised (turnedOfJob bs u v buf) r x → Promised (turnedOfJob bs u v buf) t y → (r ≡ t) × (x ≡ y)
-  one-turned u v = same (turnedOfJob bs u v buf) r t x y
+  one-turned u v = one (turnedOfJob bs u v buf) r t x y
 
   -- THE PROMISE OF `tirunoiwa_star` ALLOWS ONE ANSWER AND ONE BUFFER
   pub one-star : (room : ℕ) → Promised (starOfJob bs room buf) r x → Promised (starOfJob bs room buf) t y → (r ≡ t) × (x ≡ y)
-  one-star room = same (starOfJob bs room buf) r t x y
+  one-star room = one (starOfJob bs room buf) r t x y
 
 -- THE PROMISE OF `tirunoiwa_share` ALLOWS ONE ANSWER
 pub one-share : (bs : List ℕ) (u v r t : ℕ) → r ≡ code (shareOfJob bs u v .reply) → t ≡ code (shareOfJob bs u v .reply) → r ≡ t
 one-share bs u v r t p q = p ∙ sym q
+
+-- ---- how an answer is read
+
+-- below 256 an answer is the refusal's number, one of 1 to 14; no other answer is below
+pub record Refusals (a : ℕ) (r : Reply) : Type 0 where
+  pub refused : (k : ℕ) → (r ≡ refusal k) ↔ ((a ≡ k) × (a < 256))
+  pub number : a < 256 → (1 ≤ a) × (a ≤ 14)
+
+-- from 256 on an answer tells the length that was written
+pub record TellsLength (a : ℕ) (r : Reply) : Type 0 where
+  pub refusals : Refusals a r
+  pub length : (n : ℕ) → (r ≡ wrote n) ↔ (a ≡ 256 + n)
+
+-- from 256 on an answer tells yes or no
+pub record TellsYes (a : ℕ) (r : Reply) : Type 0 where
+  pub refusals : Refusals a r
+  pub yes : (t : Bool) → (r ≡ says t) ↔ (a ≡ 256 + cond t 1 0)
+
+-- a refusal, or a length
+abbrev Lengths : Reply → Type 0
+Lengths (refusal k) = Unit {0}
+Lengths done = ⊥
+Lengths (spans r) = ⊥
+Lengths (says t) = ⊥
+Lengths (wrote n) = Unit {0}
+
+-- a refusal, or yes or no
+abbrev YesNo : Reply → Type 0
+YesNo (refusal k) = Unit {0}
+YesNo done = ⊥
+YesNo (spans r) = ⊥
+YesNo (says t) = Unit {0}
+YesNo (wrote n) = ⊥
+
+no-wrote : {X : Type 0} {k n : ℕ} → refusal k ≡ wrote n → X
+no-wrote e = let z : _≡_ {A = ℕ} 0 1 = cc in absurd (omega arith)
+
+no-says : {X : Type 0} {k : ℕ} {t : Bool} → refusal k ≡ says t → X
+no-says e = let z : _≡_ {A = ℕ} 0 1 = cc in absurd (omega arith)
+
+same-wrote : {k l : ℕ} → wrote k ≡ wrote l → k ≡ l
+same-wrote e = cc
+
+same-says : {t s : Bool} → says t ≡ says s → t ≡ s
+same-says e = cc
+
+module _ (k : ℕ) (n : Numbered (refusal k)) where
+  a-refusal : Refusals (code (refusal k)) (refusal k)
+  unfolding code
+  a-refusal = record { refused = λ l. ((λ e. (same-refusal e, omega (arith, n .1))), λ e. ap refusal (e .0)); number = λ h. n }
+
+-- what is no refusal is from 256 on
+not-refused : (r : Reply) → 256 ≤ code r → ((k : ℕ) → refusal k ≡ r → ⊥) → Refusals (code r) r
+not-refused r h f = record { refused = λ k. ((λ e. absurd (f k (sym e))), λ e. absurd (omega (arith, h, e .1))); number = λ l. absurd (omega (arith, h, l)) }
+
+tells-length : (r : Reply) → Numbered r → Lengths r → TellsLength (code r) r
+unfolding code
+tells-length (refusal k) n w = record { refusals = a-refusal k n; length = λ m. ((λ e. no-wrote e), λ e. absurd (omega (arith, n .1, e))) }
+tells-length done n w = absurd w
+tells-length (spans r) n w = absurd w
+tells-length (says t) n w = absurd w
+tells-length (wrote l) n w = record {
+  refusals = not-refused (wrote l) (omega arith) (λ k e. no-wrote e);
+  length = λ m. ((λ e. ap (λ (k : ℕ). 256 + k) (same-wrote e)), λ e. ap wrote (omega (arith, e)));
+}
+
+tells-yes : (r : Reply) → Numbered r → YesNo r → TellsYes (code r) r
+unfolding code
+tells-yes (refusal k) n w = record { refusals = a-refusal k n; yes = λ t. ((λ e. no-says e), λ e. absurd (omega (arith, n .1, e))) }
+tells-yes done n w = absurd w
+tells-yes (spans r) n w = absurd w
+tells-yes (says t) n w = record { refusals = not-refused (says t) (omega arith) (λ k e. no-says e); yes = λ s. ((λ e. rw (same-says e)), λ e. ap says (same-bit t s e)) }
+  where
+    same-bit : (t s : Bool) → 256 + cond t 1 0 ≡ 256 + cond s 1 0 → t ≡ s
+    same-bit true true e = refl
+    same-bit true false e = absurd (omega (arith, e))
+    same-bit false true e = absurd (omega (arith, e))
+    same-bit false false e = refl
+tells-yes (wrote l) n w = absurd w
+
+-- a writing is answered by a refusal or a length
+writes-lengths : (b : Board) (t : Bool) (bs buf : List ℕ) → Lengths (writes b t bs buf .reply)
+unfolding writes refuse
+writes-lengths b true bs buf = tt
+writes-lengths b false bs buf = tt
+
+module _ (bs : List ℕ) where
+  loaded : Numbered (step empty (loads bs) .reply)
+  loaded = step-numbered empty (loads bs)
+
+  module _ (buf : List ℕ) where
+    -- THE ANSWER OF `tirunoiwa_plan`, READ
+    pub plan-tells : TellsLength (code (planOfJob bs buf .reply)) (planOfJob bs buf .reply)
+    unfolding planOfJob
+    plan-tells = tells-length _ (then-numbered (step empty (loads bs)) (writesPlan buf) loaded)
+        (then-any (step empty (loads bs)) (writesPlan buf) Lengths lengths (λ k e. tt))
+      where
+        lengths : (b : Board) → Lengths (step b (writesPlan buf) .reply)
+        lengths empty = unfold step refuse in tt
+        lengths (holding j p) = unfold step in writes-lengths (holding j p) _ (writePlan p) buf
+
+    -- THE ANSWER OF `tirunoiwa_turned`, READ
+    pub turned-tells : (u v : ℕ) → TellsLength (code (turnedOfJob bs u v buf .reply)) (turnedOfJob bs u v buf .reply)
+    unfolding turnedOfJob
+    turned-tells u v =
+        tells-length _ (then-numbered (then (step empty (loads bs)) (turns u v)) (writesJob buf) (then-numbered (step empty (loads bs)) (turns u v) loaded))
+        (then-any (then (step empty (loads bs)) (turns u v)) (writesJob buf) Lengths lengths (λ k e. tt))
+      where
+        lengths : (b : Board) → Lengths (step b (writesJob buf) .reply)
+        lengths empty = unfold step refuse in tt
+        lengths (holding j p) = unfold step in writes-lengths (holding j p) _ (writeJob j) buf
+
+    -- THE ANSWER OF `tirunoiwa_star`, READ
+    pub star-tells : (room : ℕ) → TellsLength (code (starOfJob bs room buf .reply)) (starOfJob bs room buf .reply)
+    unfolding starOfJob
+    star-tells room = tells-length _ (writes-told empty _ (rawStar bs room) buf (leb-true (length (rawStar bs room)) (length buf)) .0) (writes-lengths empty _ (rawStar bs room) buf)
+
+  -- THE ANSWER OF `tirunoiwa_share`, READ
+  pub share-tells : (u v : ℕ) → TellsYes (code (shareOfJob bs u v .reply)) (shareOfJob bs u v .reply)
+  unfolding shareOfJob
+  share-tells u v = tells-yes _ (then-numbered (step empty (loads bs)) (shares u v) loaded)
+      (then-any (step empty (loads bs)) (shares u v) YesNo answers (λ k e. tt))
+    where
+      asked : (b : Board) (q t : Bool) → YesNo (asks b q (says t) .reply)
+      asked b true t = unfold asks in tt
+      asked b false t = unfold asks refuse in tt
+
+      answers : (b : Board) → YesNo (step b (shares u v) .reply)
+      answers empty = unfold step refuse in tt
+      answers (holding j p) = unfold step in asked (holding j p) _ _
+
+-- ---- a refusal leaves every byte of the buffer
+
+behind-leaves : (r : Reply) (b : Board) (c : Call) (k : ℕ) → behind r b c .reply ≡ refusal k → behind r b c .buffer ≡ lent c
+unfolding behind refuse
+behind-leaves (refusal l) b c k e = refl
+behind-leaves done b c k e = refused-leaves b c k e .same-buffer
+behind-leaves (spans r) b c k e = refused-leaves b c k e .same-buffer
+behind-leaves (says t) b c k e = refused-leaves b c k e .same-buffer
+behind-leaves (wrote n) b c k e = refused-leaves b c k e .same-buffer
+
+module _ (bs buf : List ℕ) (k : ℕ) where
+  pub plan-leaves : planOfJob bs buf .reply ≡ refusal k → planOfJob bs buf .buffer ≡ buf
+  unfolding planOfJob then lent
+  plan-leaves e = behind-leaves _ _ (writesPlan buf) k e
+
+  pub turned-leaves : (u v : ℕ) → turnedOfJob bs u v buf .reply ≡ refusal k → turnedOfJob bs u v buf .buffer ≡ buf
+  unfolding turnedOfJob then lent
+  turned-leaves u v e = behind-leaves _ _ (writesJob buf) k e
+
+  pub star-leaves : (room : ℕ) → starOfJob bs room buf .reply ≡ refusal k → starOfJob bs room buf .buffer ≡ buf
+  unfolding starOfJob
+  star-leaves room e = go _ e
+    where
+      go : (t : Bool) → writes empty t (rawStar bs room) buf .reply ≡ refusal k → writes empty t (rawStar bs room) buf .buffer ≡ buf
+      go true e = unfold writes in no-wrote (sym e)
+      go false e = unfold writes refuse in refl

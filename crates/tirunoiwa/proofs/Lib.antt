@@ -3,3 +3,4 @@ mod Codes
 mod Calling
 mod Copying
 pub mod Corollaries
+pub mod Enough

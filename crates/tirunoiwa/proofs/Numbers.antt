@@ -1,11 +1,10 @@
 -- Which numbers answers have: a refusal 1 to 14, and no length is greater than the lent buffer's. Assumes nothing.
-use Prim.Native.Nat.{ℕ, _+_, _≤_, _<_}
+use Prim.Native.Nat.{ℕ, _+_, _≤_}
 use mathlib.Core.Path.{_≡_, refl}
 use mathlib.Core.Bool.{Bool, true, false}
 use mathlib.Core.List.{List}
 use native.Mathlib.Omega.{arith}
 use borrow.Author.Tests.{leb-true}
-use lib.Dec.{leb}
 use lib.ListN.{length}
 use Rattle.floor.specs.Jobs.{writeJob}
 use Rattle.floor.specs.Plans.{Answer, refused, held, writePlan}
@@ -15,6 +14,9 @@ use Rattle.floor.specs.Calls.{lent, refuse, after, asks, writes, sharing, step}
 use Rattle.floor.specs.Calls.Exact.{Answers, load-answers, turn-answers}
 use Rattle.floor.specs.Tracker.{code}
 
+pub same-refusal : {k l : ℕ} → refusal k ≡ refusal l → k ≡ l
+same-refusal e = cc
+
 -- a refusal is one of 1 to 14
 abbrev pub Numbered : Reply → Type 0
 Numbered (refusal k) = (1 ≤ k) × (k ≤ 14)
@@ -23,8 +25,8 @@ Numbered (spans r) = Unit {0}
 Numbered (says t) = Unit {0}
 Numbered (wrote n) = Unit {0}
 
--- one number of a call, and a bound of it
-abbrev Told : ℕ → Reply → Type 0
+-- and what a call answers is at most yes, or the length of the lent buffer
+abbrev pub Told : ℕ → Reply → Type 0
 Told m r = Numbered r × (code r ≤ 257 + m)
 
 after-told : (b : Board) (x : Answer) (l m : ℕ) → 1 ≤ l → m ≤ 14 → Answers l m x → Told 0 (after b x .reply)
@@ -42,7 +44,7 @@ unfolding code
 says-told true = (tt, omega arith)
 says-told false = (tt, omega arith)
 
-writes-told : (b : Board) (t : Bool) (bs buf : List ℕ) → (t ≡ true → length bs ≤ length buf) → Told (length buf) (writes b t bs buf .reply)
+pub writes-told : (b : Board) (t : Bool) (bs buf : List ℕ) → (t ≡ true → length bs ≤ length buf) → Told (length buf) (writes b t bs buf .reply)
 unfolding writes refuse code
 writes-told b true bs buf h = (tt, omega (arith, h refl))
 writes-told b false bs buf h = ((omega arith, omega arith), omega arith)

@@ -93,6 +93,28 @@ fn plans_are_written() {
     assert_eq!(plan(P9), Ok(P9_PLAN.to_vec()));
 }
 
+/// The greatest plan: sixty rooms in a row, between W and E.
+#[test]
+fn the_greatest_plan_is_written() {
+    let job = include_bytes!("../../../examples/row60.job");
+    let frame = [
+        [0, 1, 2, 61, 3],
+        [1, 0, 0, 1, 3],
+        [2, 1, 0, 61, 1],
+        [3, 61, 0, 62, 3],
+    ];
+    let rooms = (4..64).map(|v: u8| [v, v - 3, 1, v - 2, 2]);
+    let mut row = vec![3, 0, 2, 62, 3];
+    for rectangle in frame.into_iter().chain(rooms) {
+        row.extend([4, 0, 5]);
+        row.extend(rectangle);
+    }
+    assert_eq!(row.len(), PLAN_MOST);
+    fills(PLAN_MOST, &row, |out| plan_into(job, out));
+    refuses(PLAN_MOST - 1, 14, |out| plan_into(job, out));
+    assert_eq!(plan(job), Ok(row));
+}
+
 #[test]
 fn plans_are_refused() {
     refuses(F_PLAN.len() - 1, 14, |out| plan_into(F, out));

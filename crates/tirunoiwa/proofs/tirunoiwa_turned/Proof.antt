@@ -23,7 +23,8 @@ write-job-requires : tie.Need-write-job-requires
 write-job-requires c κs = search needs
 
 code-of-requires-2 : tie.Need-code-of-requires-2
-code-of-requires-2 c κs = job-fits _ _ _ _ (c .before .before .write-job .ensures) (c .before .before .before .before .before .before .before .before .before .before .before .before .before .before .good .1 .1 .1 .0 .1)
+code-of-requires-2 c κs = let at-start = c .before .before .before .before .before .before .before .before .before .before .before .before .before .before in
+    job-fits _ _ _ _ (c .before .before .write-job .ensures) (at-start .good .1 .1 .1 .0 .1)
 
 same-length : tie.Need-same-length
 same-length c = search needs

@@ -1,0 +1,88 @@
+-- Buffers that always suffice: no plan takes more than 517 bytes, no turned job more than 904, no star more than its job. Assumes nothing.
+use Prim.Native.Nat.{ℕ, _+_, _≤_}
+use mathlib.Core.Path.{_≡_, refl, sym, ap, _∙_}
+use mathlib.Core.Bool.{Bool, true, false}
+use mathlib.Core.List.{List, _++_}
+use native.Mathlib.Omega.{arith}
+use borrow.Author.Tests.{le-leb}
+use lib.Dec.{leb}
+use lib.ListN.{length, length-append}
+use Rattle.floor.specs.Jobs.{Job, isRoom, Reading, fails, reads, readJob, writeJob, rawStar}
+use Rattle.floor.specs.Jobs.Facts.{is-room, room-is}
+use Rattle.floor.specs.Jobs.Raw.{Stretch, raw-star, raw-fails, raw-no-room}
+use Rattle.floor.specs.Plans.{Plan, Answer, refused, held, writePlan}
+use Rattle.floor.specs.Turns.{turn}
+use Rattle.floor.specs.Calls.{load, Board, empty, holding, turns, writesJob, writesPlan, refusal, wrote, refuse, after, writes, step}
+use Rattle.floor.specs.Calls.Sound.{Sound, load-held, turn-held}
+use Rattle.floor.specs.Calls.Bytes.{job-length-most, plan-length-most}
+use Rattle.floor.specs.Calls.Exact.{Answers, load-answers, turn-answers}
+use Rattle.floor.specs.Tracker.{behind, then, planOfJob, turnedOfJob, starOfJob}
+use Rattle.tirunoiwa.proofs.Numbers.{same-refusal}
+
+-- what fits is written
+fits-written : (b : Board) (bs buf : List ℕ) (k : ℕ) → length bs ≤ length buf → writes b (leb (length bs) (length buf)) bs buf .reply ≡ refusal k → ⊥
+unfolding writes
+fits-written b bs buf k h e =
+    let z : leb (length bs) (length buf) ≡ true = le-leb (length bs) (length buf) h in
+    no-refusal (rw z at e)
+  where
+    no-refusal : wrote (length bs) ≡ refusal k → ⊥
+    no-refusal e = let z : _≡_ {A = ℕ} 0 1 = cc in omega arith
+
+-- behind a load or a turn, 14 is given by the writing alone
+plan-behind : (x : Answer) (buf : List ℕ) → Answers 1 9 x → ((j : Job) (p : Plan) → x ≡ held j p → length (writePlan p) ≤ length buf)
+    → then (after empty x) (writesPlan buf) .reply ≡ refusal 14 → ⊥
+unfolding then behind after refuse step
+plan-behind (refused k) buf n s e = omega (arith, n .1, same-refusal e)
+plan-behind (held j p) buf n s e = fits-written (holding j p) (writePlan p) buf 14 (s j p refl) e
+
+job-behind : (b : Board) (x : Answer) (buf : List ℕ) → Answers 7 12 x → ((j : Job) (p : Plan) → x ≡ held j p → length (writeJob j) ≤ length buf)
+    → then (after b x) (writesJob buf) .reply ≡ refusal 14 → ⊥
+unfolding then behind after refuse step
+job-behind b (refused k) buf n s e = omega (arith, n .1, same-refusal e)
+job-behind b (held j p) buf n s e = fits-written (holding j p) (writeJob j) buf 14 (s j p refl) e
+
+turned-behind : (x : Answer) (u v : ℕ) (buf : List ℕ) → Answers 1 9 x → ((j : Job) (p : Plan) → x ≡ held j p → Sound j p) → 904 ≤ length buf
+    → then (then (after empty x) (turns u v)) (writesJob buf) .reply ≡ refusal 14 → ⊥
+unfolding then behind after refuse step
+turned-behind (refused k) u v buf n s h e = omega (arith, n .1, same-refusal e)
+turned-behind (held j p) u v buf n s h e =
+    job-behind (holding j p) (turn j u v) buf (turn-answers j u v) (λ i q f. omega (arith, job-length-most i q (turn-held j p u v i q (s j p refl) f))) e
+
+module _ (bs buf : List ℕ) where
+  -- 517 BYTES SUFFICE for a plan
+  pub plan-enough : 517 ≤ length buf → planOfJob bs buf .reply ≡ refusal 14 → ⊥
+  unfolding planOfJob step
+  plan-enough h e = plan-behind (load bs) buf (load-answers bs) (λ j p f. omega (arith, plan-length-most j p (load-held bs j p f .1))) e
+
+  -- 904 BYTES SUFFICE for a turned job
+  pub turned-enough : (u v : ℕ) → 904 ≤ length buf → turnedOfJob bs u v buf .reply ≡ refusal 14 → ⊥
+  unfolding turnedOfJob step
+  turned-enough u v h e = turned-behind (load bs) u v buf (load-answers bs) (λ j p f. load-held bs j p f .1) h e
+
+-- a stretch is no longer than the whole
+stretch-most : (part bs : List ℕ) → Stretch part bs → length part ≤ length bs
+stretch-most part bs s =
+    let e : length bs ≡ length (s .front ++ (part ++ s .back)) = ap (λ (l : List ℕ). length l) (s .whole) in
+    omega (arith, e, length-append (s .front) (part ++ s .back), length-append part (s .back))
+
+star-most : (bs : List ℕ) (room : ℕ) → length (rawStar bs room) ≤ length bs
+star-most bs room = go (readJob bs) refl
+  where
+    of-room : (j : Job) (t : Bool) → readJob bs ≡ reads j → isRoom j room ≡ t → length (rawStar bs room) ≤ length bs
+    of-room j true e f = stretch-most (rawStar bs room) bs (raw-star bs j room e (is-room j room f) .1)
+    of-room j false e f =
+        let z : length (rawStar bs room) ≡ 0 = ap (λ (l : List ℕ). length l) (raw-no-room bs j room e (λ r. no (sym f ∙ room-is j room r))) in
+        omega (arith, z)
+      where
+        no : false ≡ true → ⊥
+        no q = let z : _≡_ {A = ℕ} 0 1 = cc in omega arith
+
+    go : (r : Reading) → readJob bs ≡ r → length (rawStar bs room) ≤ length bs
+    go (fails k) e = let z : length (rawStar bs room) ≡ 0 = ap (λ (l : List ℕ). length l) (raw-fails bs k room e) in omega (arith, z)
+    go (reads j) e = of-room j (isRoom j room) e refl
+
+-- AS MANY BYTES AS THE JOB HAS SUFFICE for a star
+pub star-enough : (bs buf : List ℕ) (room k : ℕ) → length bs ≤ length buf → starOfJob bs room buf .reply ≡ refusal k → ⊥
+unfolding starOfJob
+star-enough bs buf room k h e = fits-written empty (rawStar bs room) buf k (omega (arith, star-most bs room)) e
