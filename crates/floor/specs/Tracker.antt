@@ -1,7 +1,7 @@
 -- What a program that keeps no board asks of a job's bytes: the calls of a board, made one behind the other on an empty one. Assumes nothing.
 use Prim.Native.Nat.{ℕ, _+_}
 use mathlib.Core.Bool.{cond}
-use mathlib.Core.List.{List, []}
+use mathlib.Core.List.{List}
 use lib.ListN.{length}
 use lib.Dec.{leb}
 use Rattle.floor.specs.Jobs.{rawStar}

@@ -11,7 +11,7 @@ use Rattle.floor.specs.Texts.{digits, decimal}
 use Rattle.floor.specs.Examples.{jobF}
 use Rattle.floor.specs.JobTexts.{sideWords, frameWords, sideWord, vertexWord, contactText, contactsText, roomText, roomsText, jobText}
 use Rattle.floor.specs.JobTexts.{blank, letter, skip, word, behindWord, next, withDigit, digitsOn, numberOf, placeOf, kindOfWord, vertexOfWord}
-use Rattle.floor.specs.JobTexts.{Expected, roomNumber, colon, side, neighbour, comma, Line, behindContact, followed, contacts, anyContacts}
+use Rattle.floor.specs.JobTexts.{roomNumber, colon, side, neighbour, comma, Line, behindContact, followed, contacts, anyContacts}
 use Rattle.floor.specs.JobTexts.{behindNumber, roomLine, longer, lines, uncommented, nothing, TextRead, wrongLine, aJob, behindStar, taken, readLines, readText}
 
 -- F of document 01, as text
