@@ -6,7 +6,7 @@ use native.Mathlib.Omega.{arith}
 use borrow.Author.Tests.{le-leb}
 use lib.ListN.{length, drop}
 use Rattle.floor.specs.Fields.{Bytes}
-use Rattle.floor.specs.Jobs.{Job, Reading, reads, readJob, firstSix, rawStar, writeJob}
+use Rattle.floor.specs.Jobs.{Job, Reading, reads, readJob, firstThree, firstSix, rawStar, writeJob}
 use Rattle.floor.specs.Jobs.Facts.{six-passed}
 use Rattle.floor.specs.Jobs.Written.{write-read-job}
 use Rattle.floor.specs.Calls.{writes, wrote}
@@ -37,6 +37,10 @@ one-reading x r t p q =
     let s : r .stars ≡ t .stars = p .keeps ∙ sym (q .keeps) in
     let a : r .answer ≡ t .answer = same-answer (r .answer) (t .answer) (jobOf (t .stars)) x (rw s at (p .says)) (q .says) in
     same-fields (r .answer) (t .answer) (r .stars) (t .stars) a s
+
+-- THE PROMISE OF `hold_job` ALLOWS ONE ANSWER
+pub one-holding : (bs : List ℕ) (r t : Read) → Tells r (firstThree (readJob bs)) → Tells t (firstThree (readJob bs)) → r ≡ t
+one-holding bs r t p q = one-reading (firstThree (readJob bs)) r t p q
 
 -- THE PROMISE OF `raw_star` ALLOWS ONE ANSWER
 pub one-raw-star : (bs : List ℕ) (v : ℕ) (r t : List ℕ) → r ≡ rawStar bs v → t ≡ rawStar bs v → r ≡ t

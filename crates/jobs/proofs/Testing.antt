@@ -2,21 +2,22 @@
 use Prim.Native.Nat.{ℕ, zero, suc, _+_, _-_, _<_, _≤_}
 use mathlib.Core.Path.{_≡_, refl, sym, _∙_, ap}
 use mathlib.Core.Bool.{Bool, true, false, cond, not, _&&_}
-use mathlib.Core.List.{List, []}
+use mathlib.Core.List.{List, [], _∷_, _++_}
 use native.Mathlib.Omega.{arith}
-use borrow.Author.Tests.{le-leb, lt-leb, leb-true, not-true, not-false}
+use borrow.Author.Tests.{le-leb, lt-leb, leb-true, lt-ltb, not-true, not-false}
 use lib.Dec.{leb}
-use lib.ListN.{length, drop}
+use lib.ListN.{length, getD, take, drop, take-append-drop}
 use Rattle.floor.specs.Lists.{all}
 use Rattle.floor.specs.Lists.Laws.{and-right}
-use Rattle.floor.specs.Fields.{readField, valueOf, restOf, afterFields}
+use Rattle.floor.specs.Fields.{Bytes, Field, broken, field, readField, valueOf, restOf, afterFields}
+use Rattle.floor.specs.Fields.Laws.{Whole, whole-field, bytes-behind}
 use Rattle.floor.specs.Jobs.{Job, isVertex, isRoom, pairsIn, starOk, test2, test3, test4, test5, test6, Reading, fails, reads, readJob, passing, firstSix}
-use Rattle.floor.specs.Jobs.{rawFrom, rawStar}
+use Rattle.floor.specs.Jobs.{entries, firstThree, rawFrom, rawStar}
 use Rattle.stars.specs.declared.Stars.{Stars}
 use Rattle.stars.specs.Rooms.{allFrom}
 use Rattle.stars.specs.Held.{jobOf, noStars, heldOf}
 use Rattle.stars.proofs.EveryRoom.{test4-stars}
-use Rattle.stars.proofs.Back.{job-back}
+use Rattle.stars.proofs.Back.{small, given-back, job-back}
 use Rattle.jobs.specs.declared.Shape.{Shape}
 use Rattle.jobs.specs.declared.Shape.the-variants.{Fails, Rooms}
 use Rattle.jobs.specs.declared.Answer.the-variants.{Passed, Refused}
@@ -32,6 +33,39 @@ pub stars-length : (n : ℕ) (bs : List ℕ) → length (starsAt n bs) ≡ n
 unfolding starsAt
 stars-length zero bs = refl
 stars-length (suc n) bs = ap suc (stars-length n (restOf (readField bs)))
+
+bytes-front : (a b : List ℕ) → Bytes (a ++ b) → Bytes a
+bytes-front [] b p = tt
+bytes-front (x ∷ a) b p = (p .0, bytes-front a b (p .1))
+
+-- bytes, and the stars that stand in them, name bytes only
+bytes-fit : (s : List ℕ) → ((i : ℕ) → getD s i 0 < 256) → Bytes s
+bytes-fit [] f = tt
+bytes-fit (b ∷ s) f = (f 0, bytes-fit s (λ i. f (suc i)))
+
+bytes-drop : (k : ℕ) (s : List ℕ) → Bytes s → Bytes (drop k s)
+bytes-drop k s b = bytes-behind (take k s) (drop k s) (rw (take-append-drop k s) b)
+
+bytes-value : (f : Field) (bs : List ℕ) → readField bs ≡ f → Bytes bs → Bytes (valueOf f) × Bytes (restOf f)
+unfolding valueOf restOf
+bytes-value broken bs e b = (tt, tt)
+bytes-value (field t v rest) bs e b =
+    let w : Whole bs t v rest = whole-field bs t v rest e in
+    let all : Bytes (t ∷ w .h ∷ w .l ∷ (v ++ rest)) = rw (w .is) at b in
+    (bytes-front v rest (all .1 .1 .1), bytes-behind v rest (all .1 .1 .1))
+
+entries-small : (v : List ℕ) → Bytes v → small (entries v) ≡ true
+unfolding all entries
+entries-small [] b = refl
+entries-small (x ∷ []) b = refl
+entries-small (x ∷ k ∷ v) b = rw (lt-ltb x 256 (b .0)) (entries-small v (b .1 .1))
+
+stars-small : (n : ℕ) (bs : List ℕ) → Bytes bs → all small (starsAt n bs) ≡ true
+unfolding all starsAt
+stars-small zero bs b = refl
+stars-small (suc n) bs b =
+    let both : Bytes (valueOf (readField bs)) × Bytes (restOf (readField bs)) = bytes-value (readField bs) bs refl b in
+    rw (entries-small (valueOf (readField bs)) (both .0)) (stars-small n (restOf (readField bs)) (both .1))
 
 module _ (s : List ℕ) (n at : ℕ) where
   abbrev job : Job
@@ -89,8 +123,32 @@ module _ (s : List ℕ) (n at : ℕ) where
     tells-job nd = rw (test3-yes p count h, ← test4-walked a ea, not-false a na, ← test5-walked b eb, not-false b nb, ← test6-held, not-false d nd)
         (record { says = rw same-job; keeps = eg })
 
+-- test 3 alone
+module _ (s : List ℕ) (n at p : ℕ) (count : p ≡ pairsIn (starsAt n (drop at s))) where
+  pub three-no : (x : Read) → Tells x (fails 3) → 360 < p → Tells x (firstThree (reads (starsAt n (drop at s))))
+  unfolding firstThree passing
+  three-no x e h = rw (test3-no s n at p count h) e
+
+  pub three-held : (g : Stars) → g ≡ heldOf (starsAt n (drop at s)) → n ≤ 60 → p ≤ 360 → ((i : ℕ) → getD s i 0 < 256)
+      → Tells (record { answer = Passed; stars = g }) (firstThree (reads (starsAt n (drop at s))))
+  unfolding firstThree passing outcome said kept
+  three-held g eg few h fit =
+      let j : Job = starsAt n (drop at s) in
+      let b : all small j ≡ true = stars-small n (drop at s) (bytes-drop at s (bytes-fit s fit)) in
+      let same : jobOf g ≡ j = rw eg (given-back j (omega (arith, stars-length n (drop at s))) (omega arith) b) in
+      rw (test3-yes s n at p count h) (record { says = rw same; keeps = eg })
+
 -- what the shape tells
 module _ (s : List ℕ) (f : Shape) (x : Read) where
+  pub three-fails : (k : ℕ) → f ≡ Fails k → reading f s ≡ readJob s → Tells x (fails k) → Tells x (firstThree (readJob s))
+  unfolding reading firstThree
+  three-fails k e q t = rw (← q, e) t
+
+  pub three-kept : (n a p : ℕ) → f ≡ Rooms n a p → reading f s ≡ readJob s → Tells x (firstThree (reads (starsAt n (drop a s))))
+      → Tells x (firstThree (readJob s))
+  unfolding reading
+  three-kept n a p e q t = rw (← q, e) t
+
   pub read-fails : (k : ℕ) → f ≡ Fails k → reading f s ≡ readJob s → Tells x (fails k) → Tells x (firstSix (readJob s))
   unfolding reading firstSix
   read-fails k e q t = rw (← q, e) t

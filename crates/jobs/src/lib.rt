@@ -1,6 +1,6 @@
-// Jobs from bytes: tests 1 to 6, the star question, and writing a job back.
+// Jobs from bytes: tests 1 to 3 and 1 to 6, the star question, and writing a job back.
 ghost use mathlib.Core.Path.{_≡_};
-ghost use Rattle.floor.specs.Jobs.{readJob, rawStar, firstSix, writeJob};
+ghost use Rattle.floor.specs.Jobs.{readJob, rawStar, firstThree, firstSix, writeJob};
 ghost use Rattle.jobs.specs.Reads.{Tells};
 ghost use Rattle.stars.specs.Held.{jobOf};
 ghost use Rattle.fields.specs.Writes.{replied, writing};
@@ -25,7 +25,7 @@ pub enum Shape {
     Rooms(u8, usize, usize),
 }
 
-// What reading a job answers: tests 1 to 6 are passed, or the number of the first that fails.
+// What reading a job answers: the tests are passed, or the number of the first that fails.
 pub enum Answer {
     Passed,
     Refused(u8),
@@ -35,6 +35,17 @@ pub enum Answer {
 pub struct Read {
     pub answer: Answer,
     pub stars: Stars,
+}
+
+// A job's bytes, read and put through tests 1 to 3: what passes is held, and may yet be no floor.
+pub fn hold_job(job: &[u8]) -> Read
+    ensures { λ r. ⌜ Tells r (firstThree (readJob (now (job .entry)))) ⌝ }
+{
+    let shape = outline::shape_of(job);
+    match shape {
+        Shape::Fails(k) => tests::refused(k),
+        Shape::Rooms(n, at, pairs) => tests::kept(job, n, at, pairs),
+    }
 }
 
 // A job's bytes, read and put through tests 1 to 6.

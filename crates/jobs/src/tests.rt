@@ -1,8 +1,8 @@
-// Tests 3 to 6 of a job whose bytes have the right shape, each over the entire job before the next.
+// Tests 3 to 6 of a job whose bytes have the right shape, each over the entire job before the next, and test 3 alone.
 ghost use mathlib.Core.Path.{_≡_};
 ghost use Prim.Native.Nat.{_≤_};
 ghost use lib.ListN.{drop};
-ghost use Rattle.floor.specs.Jobs.{pairsIn, reads, fails, firstSix};
+ghost use Rattle.floor.specs.Jobs.{pairsIn, reads, fails, firstThree, firstSix};
 ghost use Rattle.jobs.specs.Shapes.{starsAt};
 ghost use Rattle.jobs.specs.Reads.{Tells};
 use crate::Answer;
@@ -15,6 +15,21 @@ pub fn refused(k: u8) -> Read
     let stars = stars::held::none_held();
     Read {
         answer: Answer::Refused(k),
+        stars,
+    }
+}
+
+// The n stars from a place on, held where they pass test 3; how many pairs they have is known.
+pub fn kept(job: &[u8], n: u8, at: usize, pairs: usize) -> Read
+    requires { ⌜ (n ≤ 60) × (pairs ≡ pairsIn (starsAt n (drop at (now job)))) ⌝ }
+    ensures { λ r. ⌜ Tells r (firstThree (reads (starsAt n (drop at (now (job .entry)))))) ⌝ }
+{
+    if 360 < pairs {
+        return refused(3);
+    }
+    let stars = crate::fill::hold(job, at, n);
+    Read {
+        answer: Answer::Passed,
         stars,
     }
 }
