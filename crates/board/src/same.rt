@@ -26,23 +26,6 @@ fn same_words<'a>(a: &'a [u16], b: &'a [u16]) -> bool
     true
 }
 
-// Whether two lists of bytes are the same.
-fn same_bytes<'a>(a: &'a [u8], b: &'a [u8]) -> bool
-    ensures { λ r. ⌜ r ≡ sameNumbers (now (a .entry)) (now (b .entry)) ⌝ }
-{
-    if a.len() != b.len() {
-        return false;
-    }
-    let mut i: usize = 0;
-    while i < a.len() {
-        if a[i] != b[i] {
-            return false;
-        }
-        i += 1;
-    }
-    true
-}
-
 // Whether two stars are the same.
 fn same_stars(s: Stars, t: Stars) -> bool
     ensures { λ r. ⌜ r ≡ sameStars s t ⌝ }
@@ -56,7 +39,7 @@ fn same_stars(s: Stars, t: Stars) -> bool
     if !same_words(&s.nbr, &t.nbr) {
         return false;
     }
-    same_bytes(&s.kind, &t.kind)
+    fields::same_bytes(&s.kind, &t.kind)
 }
 
 // Whether two plans are the same.

@@ -2,6 +2,7 @@
 ghost use mathlib.Core.Path.{_≡_};
 ghost use Prim.Native.Nat.{_+_, _*_, _-_, _<_};
 ghost use lib.ListN.{length, getD, drop};
+ghost use Rattle.floor.specs.Lists.{sameNumbers};
 ghost use Rattle.floor.specs.Fields.{readField, valueOf, restOf};
 ghost use Rattle.fields.specs.Found.{found, stands, withHead};
 
@@ -31,6 +32,23 @@ pub fn number(x: u16) -> usize
     ensures { λ r. ⌜ (r ≡ x) × (r < 65536) ⌝ }
 {
     x as usize
+}
+
+// Whether two lists of bytes are the same.
+pub fn same_bytes<'a>(a: &'a [u8], b: &'a [u8]) -> bool
+    ensures { λ r. ⌜ r ≡ sameNumbers (now (a .entry)) (now (b .entry)) ⌝ }
+{
+    if a.len() != b.len() {
+        return false;
+    }
+    let mut i: usize = 0;
+    while i < a.len() {
+        if a[i] != b[i] {
+            return false;
+        }
+        i += 1;
+    }
+    true
 }
 
 // The two-byte number at a place, high byte first.

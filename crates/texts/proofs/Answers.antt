@@ -1,34 +1,21 @@
 -- Whole answers as text, as the code comes by them. Assumes nothing.
-use Prim.Native.Nat.{ℕ, _+_, _≤_, _<_}
+use Prim.Native.Nat.{ℕ, _≤_, _<_}
 use mathlib.Core.Path.{_≡_, sym, ap, _∙_}
 use mathlib.Core.Bool.{true, false}
-use mathlib.Core.List.{List, [], _∷_}
-use native.Mathlib.Omega.{arith}
+use mathlib.Core.List.{List}
 use borrow.Author.Tests.{le-leb, lt-leb}
 use lib.Dec.{leb}
 use lib.ListN.{length}
 use lib.Seq.{sets}
 use Rattle.floor.specs.Plans.{refused, held}
 use Rattle.floor.specs.Calls.{load}
-use Rattle.floor.specs.Quoted.{plain}
-use Rattle.floor.specs.Texts.{line, refusedWord, tooLong, planText, answerText, listing}
+use Rattle.floor.specs.Texts.{tooLong, planText, answerText, listing}
 use Rattle.stars.specs.Held.{jobOf}
 use Rattle.drawing.specs.declared.Answer.the-variants.{Drawn, Refused}
 use Rattle.drawing.specs.Rects.{planIn}
 use Rattle.drawing.specs.Drawn.{said}
 use Rattle.board.specs.declared.Planned.{Planned}
 use Rattle.board.specs.Boards.{Plans}
-use Rattle.texts.proofs.Rows.{both-put, both-end}
-
--- a refusal: the word, then its number on the same line
-module _ (o x y : List ℕ) (k n m r : ℕ) where
-  pub refusal-put : n ≡ k → x ≡ sets o 0 refusedWord → m ≡ 0 + 8 → y ≡ sets x m (line (n ∷ [])) → y ≡ sets o 0 (answerText (refused k))
-  unfolding answerText refusedWord plain
-  refusal-put en ex em ey = both-put o x y refusedWord (line (k ∷ [])) 0 m ex em (rw en at ey)
-
-  pub refusal-end : n ≡ k → m ≡ 0 + 8 → r ≡ m + length (line (n ∷ [])) → r ≡ length (answerText (refused k))
-  unfolding answerText refusedWord plain
-  refusal-end en em er = omega (arith, both-end refusedWord (line (k ∷ [])) 0 m r em (rw en at er))
 
 -- what is printed for some input
 module _ (bs : List ℕ) where

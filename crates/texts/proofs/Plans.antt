@@ -13,7 +13,7 @@ use Rattle.drawing.specs.declared.Rect.{Rect as HeldRect}
 use Rattle.drawing.specs.declared.Plan.{Plan as HeldPlan}
 use Rattle.drawing.specs.Rects.{rectIn, rectAt, rectsIn, planIn}
 use Rattle.drawing.proofs.Corollaries.{many-rects}
-use Rattle.texts.proofs.Rows.{both-put, both-end}
+use Rattle.letters.proofs.Rows.{both-put, both-end}
 
 -- how large the vertices of the rectangles that are held are
 vertex-at : (m k i : ℕ) (l : List ℕ) → (getD (rectsIn m k l) i nowhere) .vertex ≤ k + i

@@ -8,31 +8,28 @@ ghost use Rattle.floor.specs.Texts.{tooLong, planText, answerText, listing};
 ghost use Rattle.drawing.specs.Rects.{planIn};
 use drawing::Plan;
 
-mod number; // number.rt: a number in decimal
 mod line; // line.rt: numbers on one line
-mod word; // word.rt: the fixed words
 mod plan; // plan.rt: a line for each rectangle
 
 // The number of a refusal, as text at the front; how many bytes that takes is handed back.
 pub fn list_refusal(k: u8, out: &mut [u8; 8192]) -> usize
     ensures { λ r. ⌜ (r ≡ length (answerText (refused k))) × (now (out .exit) ≡ sets (now (out .entry)) 0 (answerText (refused k))) × (r ≤ 8192) ⌝ }
 {
-    let next = word::put_refused(out, 0);
-    line::put_one(out, next, fields::wide(k))
+    letters::line::put_refusal(out, 0, k)
 }
 
 // What is said of input that is too long, at the front; how many bytes that takes is handed back.
 pub fn list_too_long(out: &mut [u8; 8192]) -> usize
     ensures { λ r. ⌜ (r ≡ length tooLong) × (now (out .exit) ≡ sets (now (out .entry)) 0 tooLong) × (r ≤ 8192) ⌝ }
 {
-    word::put_too_long(out, 0)
+    letters::word::put_too_long(out, 0)
 }
 
 // A plan, as text at the front; how many bytes that takes is handed back.
 pub fn list_plan(plan: Plan, out: &mut [u8; 8192]) -> usize
     ensures { λ r. ⌜ (r ≡ length (planText (planIn plan))) × (now (out .exit) ≡ sets (now (out .entry)) 0 (planText (planIn plan))) × (r ≤ 8192) ⌝ }
 {
-    let sheet = word::put_sheet(out, 0);
+    let sheet = line::put_sheet(out, 0);
     let first = line::put_two(
         out,
         sheet,

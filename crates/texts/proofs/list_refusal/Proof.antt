@@ -1,20 +1,14 @@
-use Rattle.texts.proofs.Answers.{refusal-put, refusal-end}
+use Rattle.floor.specs.Texts.{answerText}
 use borrow.Author.Needs.{needs}
 use Rattle.texts.proofs.list_refusal.Statement.{statement}
 use Rattle.texts.proofs.list_refusal.Tie as tie
 
-put-refused-requires : tie.Need-put-refused-requires
-put-refused-requires c κs = search needs
-
-wide-requires : tie.Need-wide-requires
-wide-requires c κs = search needs
-
-put-one-requires : tie.Need-put-one-requires
-put-one-requires c κs = search needs
+put-refusal-requires : tie.Need-put-refusal-requires
+put-refusal-requires c κs = search needs
 
 returns : tie.Need-returns
-returns c = (search (refusal-end, needs), search (refusal-put, needs), search needs)
+unfolding answerText
+returns c = search needs
 
 pub list-refusal-spec : {M : Type 1} → statement M
-list-refusal-spec =
-    tie.close (tie.spec put-refused-requires wide-requires put-one-requires returns)
+list-refusal-spec = tie.close (tie.spec put-refusal-requires returns)

@@ -3,7 +3,7 @@ use mathlib.Core.Path.{_≡_, refl}
 use native.Mathlib.Omega.{arith}
 use lib.ListN.{length, drop}
 use Rattle.floor.specs.Lists.{sameNumbers}
-use Rattle.board.proofs.Standing.{same-length, same-false, same-next, same-done}
+use Rattle.fields.proofs.Same.{same-length, same-false, same-next, same-done}
 use borrow.Author.Needs.{needs}
 use Rattle.board.proofs.same.same_words.Statement.{statement}
 use Rattle.board.proofs.same.same_words.Tie as tie

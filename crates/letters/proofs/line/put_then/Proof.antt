@@ -1,7 +1,7 @@
-use Rattle.texts.proofs.Rows.{then-put, then-end}
+use Rattle.letters.proofs.Rows.{then-put, then-end}
 use borrow.Author.Needs.{needs}
-use Rattle.texts.proofs.line.put_then.Statement.{statement}
-use Rattle.texts.proofs.line.put_then.Tie as tie
+use Rattle.letters.proofs.line.put_then.Statement.{statement}
+use Rattle.letters.proofs.line.put_then.Tie as tie
 
 put-decimal-requires : tie.Need-put-decimal-requires
 put-decimal-requires c κs = search needs

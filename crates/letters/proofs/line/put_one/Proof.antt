@@ -1,7 +1,7 @@
 use Rattle.floor.specs.Texts.{line}
 use borrow.Author.Needs.{needs}
-use Rattle.texts.proofs.line.put_one.Statement.{statement}
-use Rattle.texts.proofs.line.put_one.Tie as tie
+use Rattle.letters.proofs.line.put_one.Statement.{statement}
+use Rattle.letters.proofs.line.put_one.Tie as tie
 
 put-then-requires : tie.Need-put-then-requires
 put-then-requires c κs = search needs

@@ -1,12 +1,12 @@
-// The fixed words, put at a place of a lent buffer.
+// Words, put at a place of a lent buffer.
 ghost use mathlib.Core.Path.{_≡_};
 ghost use Prim.Native.Nat.{_+_, _≤_};
 ghost use lib.ListN.{length};
 ghost use lib.Seq.{sets};
-ghost use Rattle.floor.specs.Texts.{sheetWord, refusedWord, tooLong};
+ghost use Rattle.floor.specs.Texts.{refusedWord, tooLong};
 
 // Some bytes, put; the place behind them is handed back.
-fn put_word<'a>(out: &mut [u8], at: usize, word: &'a [u8]) -> usize
+pub fn put_word<'a>(out: &mut [u8], at: usize, word: &'a [u8]) -> usize
     requires { ⌜ at + length (now word) ≤ length (now out) ⌝ }
     ensures { λ r. ⌜ (now (out .exit) ≡ sets (now (out .entry)) at (now (word .entry))) × (r ≡ at + length (now (word .entry))) ⌝ }
 {
@@ -16,14 +16,6 @@ fn put_word<'a>(out: &mut [u8], at: usize, word: &'a [u8]) -> usize
         i += 1;
     }
     at + i
-}
-
-// The word in front of a sheet.
-pub fn put_sheet(out: &mut [u8], at: usize) -> usize
-    requires { ⌜ at + 6 ≤ length (now out) ⌝ }
-    ensures { λ r. ⌜ (now (out .exit) ≡ sets (now (out .entry)) at sheetWord) × (r ≡ at + 6) ⌝ }
-{
-    put_word(out, at, b"sheet ")
 }
 
 // The word in front of the number of a refusal.

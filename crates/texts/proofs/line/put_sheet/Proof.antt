@@ -1,8 +1,8 @@
 use Rattle.floor.specs.Quoted.{plain}
 use Rattle.floor.specs.Texts.{sheetWord}
 use borrow.Author.Needs.{needs}
-use Rattle.texts.proofs.word.put_sheet.Statement.{statement}
-use Rattle.texts.proofs.word.put_sheet.Tie as tie
+use Rattle.texts.proofs.line.put_sheet.Statement.{statement}
+use Rattle.texts.proofs.line.put_sheet.Tie as tie
 
 slice-aggregate-put-word : tie.Need-slice-aggregate-put-word
 slice-aggregate-put-word c = search needs

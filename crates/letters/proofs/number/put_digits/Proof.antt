@@ -3,11 +3,11 @@ use mathlib.Core.Path.{_≡_}
 use lib.ListN.{length, length-set}
 use lib.Seq.{sets}
 use native.Mathlib.Omega.{arith}
-use Rattle.texts.specs.Digits.{lastDigits}
-use Rattle.texts.proofs.Numbers.{digit-more, digit-done}
+use Rattle.letters.specs.Digits.{lastDigits}
+use Rattle.letters.proofs.Numbers.{digit-more, digit-done}
 use borrow.Author.Needs.{needs}
-use Rattle.texts.proofs.number.put_digits.Statement.{statement}
-use Rattle.texts.proofs.number.put_digits.Tie as tie
+use Rattle.letters.proofs.number.put_digits.Statement.{statement}
+use Rattle.letters.proofs.number.put_digits.Tie as tie
 
 abbrev Inv-loop : tie.InvT-loop
 Inv-loop out₀ at n count k₀ rest₀ out k rest = (k ≤ count) × (length out ≡ length out₀) × (sets out at (lastDigits k rest) ≡ sets out₀ at (lastDigits count n))

@@ -8,7 +8,7 @@ use lib.ListN.{length, set, length-append}
 use lib.Seq.{sets, set-comm}
 use Rattle.floor.specs.Texts.{digits, decimal}
 use Rattle.fields.proofs.Puts.{sets-append}
-use Rattle.texts.specs.Digits.{lastDigits}
+use Rattle.letters.specs.Digits.{lastDigits}
 
 pub length-last : (k n : ℕ) → length (lastDigits k n) ≡ k
 unfolding lastDigits

@@ -3,10 +3,10 @@ use mathlib.Core.Path.{_≡_, refl}
 use native.Mathlib.Omega.{arith}
 use lib.ListN.{length, drop}
 use Rattle.floor.specs.Lists.{sameNumbers}
-use Rattle.board.proofs.Standing.{same-length, same-false, same-next, same-done}
+use Rattle.fields.proofs.Same.{same-length, same-false, same-next, same-done}
 use borrow.Author.Needs.{needs}
-use Rattle.board.proofs.same.same_bytes.Statement.{statement}
-use Rattle.board.proofs.same.same_bytes.Tie as tie
+use Rattle.fields.proofs.same_bytes.Statement.{statement}
+use Rattle.fields.proofs.same_bytes.Tie as tie
 
 abbrev Inv-loop : tie.InvT-loop
 Inv-loop a b i₀ i = (i ≤ length a) × (length a ≡ length b) × (sameNumbers (drop i a) (drop i b) ≡ sameNumbers a b)

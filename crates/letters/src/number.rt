@@ -4,7 +4,7 @@ ghost use Prim.Native.Nat.{_+_, _≤_, _<_};
 ghost use lib.ListN.{length};
 ghost use lib.Seq.{sets};
 ghost use Rattle.floor.specs.Texts.{decimal};
-ghost use Rattle.texts.specs.Digits.{lastDigits};
+ghost use Rattle.letters.specs.Digits.{lastDigits};
 
 // How many digits a number has.
 fn places(n: usize) -> usize

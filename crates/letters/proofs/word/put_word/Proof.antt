@@ -4,10 +4,10 @@ use native.Mathlib.Nat.{add-zero}
 use native.Mathlib.Omega.{arith}
 use lib.ListN.{length, length-set, drop}
 use lib.Seq.{sets}
-use Rattle.texts.proofs.Words.{byte-more, byte-done}
+use Rattle.letters.proofs.Words.{byte-more, byte-done}
 use borrow.Author.Needs.{needs}
-use Rattle.texts.proofs.word.put_word.Statement.{statement}
-use Rattle.texts.proofs.word.put_word.Tie as tie
+use Rattle.letters.proofs.word.put_word.Statement.{statement}
+use Rattle.letters.proofs.word.put_word.Tie as tie
 
 abbrev Inv-loop : tie.InvT-loop
 Inv-loop out₀ at word i₀ out i = (i ≤ length word) × (length out ≡ length out₀) × (sets out (at + i) (drop i word) ≡ sets out₀ at word)

@@ -1,8 +1,8 @@
-use Rattle.texts.proofs.Numbers.{decimal-put}
+use Rattle.letters.proofs.Numbers.{decimal-put}
 use native.Mathlib.Omega.{arith}
 use borrow.Author.Needs.{needs}
-use Rattle.texts.proofs.number.put_decimal.Statement.{statement}
-use Rattle.texts.proofs.number.put_decimal.Tie as tie
+use Rattle.letters.proofs.number.put_decimal.Statement.{statement}
+use Rattle.letters.proofs.number.put_decimal.Tie as tie
 
 places-requires : tie.Need-places-requires
 places-requires c κs = search needs

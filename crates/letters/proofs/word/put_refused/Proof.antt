@@ -1,8 +1,8 @@
 use Rattle.floor.specs.Quoted.{plain}
-use Rattle.floor.specs.Texts.{tooLong}
+use Rattle.floor.specs.Texts.{refusedWord}
 use borrow.Author.Needs.{needs}
-use Rattle.texts.proofs.word.put_too_long.Statement.{statement}
-use Rattle.texts.proofs.word.put_too_long.Tie as tie
+use Rattle.letters.proofs.word.put_refused.Statement.{statement}
+use Rattle.letters.proofs.word.put_refused.Tie as tie
 
 slice-aggregate-put-word : tie.Need-slice-aggregate-put-word
 slice-aggregate-put-word c = search needs
@@ -14,9 +14,9 @@ same-length : tie.Need-same-length
 same-length c = search needs
 
 returns : tie.Need-returns
-unfolding tooLong plain
+unfolding refusedWord plain
 returns c = search needs
 
-pub put-too-long-spec : {M : Type 1} → statement M
-put-too-long-spec =
+pub put-refused-spec : {M : Type 1} → statement M
+put-refused-spec =
     tie.close (tie.spec slice-aggregate-put-word put-word-requires same-length returns)

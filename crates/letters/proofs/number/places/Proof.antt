@@ -1,8 +1,8 @@
-use Rattle.texts.proofs.Numbers.{place-one, place-two, place-three, place-four, place-five}
+use Rattle.letters.proofs.Numbers.{place-one, place-two, place-three, place-four, place-five}
 use native.Mathlib.Omega.{arith}
 use borrow.Author.Needs.{needs}
-use Rattle.texts.proofs.number.places.Statement.{statement}
-use Rattle.texts.proofs.number.places.Tie as tie
+use Rattle.letters.proofs.number.places.Statement.{statement}
+use Rattle.letters.proofs.number.places.Tie as tie
 
 returns : tie.Need-returns
 returns c = search (place-one, needs)

@@ -1,0 +1,3 @@
+mod Numbers
+mod Words
+pub mod Rows
