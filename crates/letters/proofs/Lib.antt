@@ -1,3 +1,4 @@
 mod Numbers
 mod Words
 pub mod Rows
+pub mod Corollaries

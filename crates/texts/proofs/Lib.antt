@@ -1,4 +1,3 @@
 mod Rows
 mod Answers
 mod Plans
-pub mod Corollaries

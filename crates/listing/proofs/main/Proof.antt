@@ -1,6 +1,7 @@
 use mathlib.Core.Path.{sym}
 use lib.Seq.{length-take-le}
-use Rattle.texts.proofs.Corollaries.{listing-fits}
+use Rattle.floor.specs.Texts.{listing}
+use Rattle.letters.proofs.Corollaries.{text-fits}
 use borrow.Author.Needs.{needs}
 use Rattle.listing.proofs.main.Statement.{statement}
 use Rattle.listing.proofs.main.Tie as tie
@@ -24,10 +25,10 @@ list-requires : tie.Need-list-requires
 list-requires c κs = search needs
 
 array-share-prefix-out : tie.Need-array-share-prefix-out
-array-share-prefix-out c = listing-fits _ _ _ _ (c .list .ensures) (c .before .before .before .page .ensures)
+array-share-prefix-out c = text-fits (listing _) _ _ _ (c .list .ensures) (c .before .before .before .page .ensures)
 
 slice-aggregate-write-all : tie.Need-slice-aggregate-write-all
-slice-aggregate-write-all c = sym (length-take-le _ _ (listing-fits _ _ _ _ (c .before .list .ensures) (c .before .before .before .before .page .ensures)))
+slice-aggregate-write-all c = sym (length-take-le _ _ (text-fits (listing _) _ _ _ (c .before .list .ensures) (c .before .before .before .before .page .ensures)))
 
 write-all-requires : tie.Need-write-all-requires
 write-all-requires c κs = search needs

@@ -1,0 +1,3 @@
+mod AllSided
+mod Put
+mod Answers

@@ -1,0 +1,96 @@
+use native.Mathlib.Omega.{arith}
+use Rattle.floor.specs.Quoted.{plain}
+use Rattle.job_texts.proofs.Put.{named-put, side-above, side-left, side-below, side-right, side-none}
+use borrow.Author.Needs.{needs}
+use Rattle.job_texts.proofs.write.put_side.Statement.{statement}
+use Rattle.job_texts.proofs.write.put_side.Tie as tie
+
+slice-aggregate-put-word : tie.Need-slice-aggregate-put-word
+slice-aggregate-put-word c = search needs
+
+put-word-requires : tie.Need-put-word-requires
+put-word-requires c κs = search needs
+
+same-length : tie.Need-same-length
+same-length c = search needs
+
+returns : tie.Need-returns
+unfolding plain
+returns c = named-put _ _ _ _ _ _ 7 (side-above _ (search needs)) (omega arith) (c .before .before .put-word .ensures)
+
+slice-aggregate-put-word-2 : tie.Need-slice-aggregate-put-word-2
+slice-aggregate-put-word-2 c = search needs
+
+put-word-requires-2 : tie.Need-put-word-requires-2
+put-word-requires-2 c κs = search needs
+
+same-length-2 : tie.Need-same-length-2
+same-length-2 c = search needs
+
+returns-2 : tie.Need-returns-2
+unfolding plain
+returns-2 c = named-put _ _ _ _ _ _ 7 (side-left _ (search needs)) (omega arith) (c .before .before .put-word2 .ensures)
+
+slice-aggregate-put-word-3 : tie.Need-slice-aggregate-put-word-3
+slice-aggregate-put-word-3 c = search needs
+
+put-word-requires-3 : tie.Need-put-word-requires-3
+put-word-requires-3 c κs = search needs
+
+same-length-3 : tie.Need-same-length-3
+same-length-3 c = search needs
+
+returns-3 : tie.Need-returns-3
+unfolding plain
+returns-3 c = named-put _ _ _ _ _ _ 7 (side-below _ (search needs)) (omega arith) (c .before .before .put-word3 .ensures)
+
+slice-aggregate-put-word-4 : tie.Need-slice-aggregate-put-word-4
+slice-aggregate-put-word-4 c = search needs
+
+put-word-requires-4 : tie.Need-put-word-requires-4
+put-word-requires-4 c κs = search needs
+
+same-length-4 : tie.Need-same-length-4
+same-length-4 c = search needs
+
+returns-4 : tie.Need-returns-4
+unfolding plain
+returns-4 c = named-put _ _ _ _ _ _ 7 (side-right _ (search needs)) (omega arith) (c .before .before .put-word4 .ensures)
+
+slice-aggregate-put-word-5 : tie.Need-slice-aggregate-put-word-5
+slice-aggregate-put-word-5 c = search needs
+
+put-word-requires-5 : tie.Need-put-word-requires-5
+put-word-requires-5 c κs = search needs
+
+same-length-5 : tie.Need-same-length-5
+same-length-5 c = search needs
+
+returns-5 : tie.Need-returns-5
+unfolding plain
+returns-5 c = named-put _ _ _ _ _ _ 7 (side-none _ (search needs) (search needs) (search needs) (search needs)) (omega arith) (c .before .before .put-word5 .ensures)
+
+pub put-side-spec : {M : Type 1} → statement M
+put-side-spec =
+    tie.close
+    (tie.spec
+    slice-aggregate-put-word
+    put-word-requires
+    same-length
+    returns
+    slice-aggregate-put-word-2
+    put-word-requires-2
+    same-length-2
+    returns-2
+    slice-aggregate-put-word-3
+    put-word-requires-3
+    same-length-3
+    returns-3
+    slice-aggregate-put-word-4
+    put-word-requires-4
+    same-length-4
+    returns-4
+    slice-aggregate-put-word-5
+    put-word-requires-5
+    same-length-5
+    returns-5)

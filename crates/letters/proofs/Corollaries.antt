@@ -1,0 +1,19 @@
+-- What follows from a promise on a text put at the front of a buffer. Assumes nothing.
+use Prim.Native.Nat.{ℕ, _≤_}
+use mathlib.Core.Path.{_≡_, sym, ap, _∙_}
+use mathlib.Core.List.{List}
+use native.Mathlib.Omega.{arith}
+use lib.ListN.{length}
+use lib.Seq.{sets, length-sets}
+
+module _ (t o : List ℕ) where
+  -- A PROMISE ON A TEXT PUT AT THE FRONT allows one length and one buffer
+  pub one-text : (r s : ℕ) (x y : List ℕ) → (r ≡ length t) × (x ≡ sets o 0 t) × (r ≤ 8192) → (s ≡ length t) × (y ≡ sets o 0 t) × (s ≤ 8192)
+      → (r ≡ s) × (x ≡ y)
+  one-text r s x y p q = (p .0 ∙ sym (q .0), p .1 ∙ sym (q .1))
+
+  -- what is put lies within the buffer
+  pub text-fits : (r : ℕ) (x : List ℕ) → (r ≡ length t) × (x ≡ sets o 0 t) × (r ≤ 8192) → length o ≡ 8192 → r ≤ length x
+  text-fits r x p l =
+      let k : length x ≡ length o = ap (λ (y : List ℕ). length y) (p .1) ∙ length-sets o 0 t in
+      omega (arith, p .2, l, k)
