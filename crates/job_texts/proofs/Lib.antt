@@ -1,3 +1,5 @@
 mod AllSided
 mod Put
+mod Spaced
+mod Said
 mod Answers

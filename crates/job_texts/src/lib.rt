@@ -8,6 +8,8 @@ use jobs::Answer;
 
 mod write; // write.rt: contacts, a room's line, and all the lines, written
 mod sided; // sided.rt: whether every kind is a side
+mod words; // words.rt: where words start and end
+mod values; // values.rt: what a word says
 
 // What is printed for the bytes of a job, at the front; how many bytes that takes is handed back.
 pub fn text_of(job: &[u8], out: &mut [u8; 8192]) -> usize
