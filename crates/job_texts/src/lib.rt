@@ -5,11 +5,52 @@ ghost use lib.ListN.{length};
 ghost use lib.Seq.{sets};
 ghost use Rattle.floor.specs.JobTexts.{textOf};
 use jobs::Answer;
+use stars::Stars;
 
 mod write; // write.rt: contacts, a room's line, and all the lines, written
 mod sided; // sided.rt: whether every kind is a side
 mod words; // words.rt: where words start and end
 mod values; // values.rt: what a word says
+mod contacts; // contacts.rt: the contacts of a line, read
+mod rows; // rows.rt: a room's line, read
+mod whole; // whole.rt: a text, read line by line
+
+// What should have stood on a line that is wrong.
+pub enum Lack {
+    RoomNumber(usize),
+    Colon,
+    Side,
+    Neighbour,
+    Comma,
+    NoRoom,
+    NoContact,
+}
+
+// Whether a line, or a text, is right.
+pub enum Verdict {
+    Right,
+    Wrong(Lack),
+}
+
+// What stands where a contact should: what is lacking, or the kind, the neighbour, and the place of the next thing.
+pub enum Contact {
+    Lacks(Lack),
+    Stands(u8, u16, usize),
+}
+
+// What came of a line: whether it is right, the place behind its entries, and the stars with them.
+pub struct Row {
+    pub verdict: Verdict,
+    pub next: usize,
+    pub stars: Stars,
+}
+
+// What came of a text: whether it is right, the number of the wrong line, and the stars.
+pub struct Taken {
+    pub verdict: Verdict,
+    pub line: usize,
+    pub stars: Stars,
+}
 
 // What is printed for the bytes of a job, at the front; how many bytes that takes is handed back.
 pub fn text_of(job: &[u8], out: &mut [u8; 8192]) -> usize
