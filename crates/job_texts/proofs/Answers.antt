@@ -6,21 +6,31 @@ use mathlib.Core.List.{List, [], _∷_, _++_}
 use native.Mathlib.Omega.{arith}
 use borrow.Author.Tests.{le-leb, lt-leb, leb-true, not-true, not-false}
 use lib.Dec.{leb}
-use lib.ListN.{length}
-use lib.Seq.{sets}
+use lib.ListN.{length, drop}
+use lib.Seq.{sets, sets-eq}
 use Rattle.floor.specs.Lists.Laws.{and-right}
 use Rattle.floor.specs.Fields.{readField}
-use Rattle.floor.specs.Jobs.{Job, pairsIn, test2, test3, Reading, fails, reads, passing, firstThree, readJob}
-use Rattle.floor.specs.Jobs.Written.{Counted, counted, read-length}
+use Rattle.floor.specs.Jobs.{Job, pairsIn, test2, test3, Reading, fails, reads, passing, firstThree, readJob, writeJob}
+use Rattle.floor.specs.Jobs.Written.{Counted, counted, read-length, length-writeJob}
+use Rattle.floor.specs.Calls.{refusal, wrote, writes}
 use Rattle.floor.specs.Quoted.{plain}
 use Rattle.floor.specs.Texts.{line, refusedWord, tooLong}
-use Rattle.floor.specs.JobTexts.{sided, texted, textAnswer, textOf, jobText}
+use Rattle.floor.specs.JobTexts.{sided, texted, textAnswer, textOf, jobText, TextRead, wrongLine, aJob, readText, jobAnswer, jobOf as textJob}
 use Rattle.stars.specs.declared.Stars.{Stars}
-use Rattle.stars.specs.Held.{jobOf}
+use Rattle.stars.specs.Held.{jobOf, noStars, heldOf}
+use Rattle.stars.proofs.Back.{given-back}
 use Rattle.stars.proofs.Holding.{length-stars}
 use Rattle.jobs.specs.declared.Answer.the-variants.{Passed, Refused}
 use Rattle.jobs.specs.declared.Read.{Read}
 use Rattle.jobs.specs.Reads.{said, outcome, Tells}
+use Rattle.fields.specs.declared.Written.{Written}
+use Rattle.fields.specs.declared.Written.the-variants.{Wrote, TooShort}
+use Rattle.fields.specs.Writes.{replied, writing}
+use Rattle.job_texts.specs.declared.Lack.{Lack}
+use Rattle.job_texts.specs.declared.Verdict.the-variants.{Right, Wrong}
+use Rattle.job_texts.specs.declared.Taken.{Taken}
+use Rattle.job_texts.specs.Reads.{lackOf, numberIn, wrongAt, allHeld, finish, toldText, takenOf}
+use Rattle.job_texts.proofs.Limits.{Within, text-within}
 
 -- a text put at the front, under any name that it has
 pub front-put : (t w o x : List ℕ) (r most : ℕ) → t ≡ w → most ≤ 8192 → (x ≡ sets o 0 w) × (r ≡ 0 + length w) × (r ≤ 0 + most)
@@ -31,6 +41,30 @@ front-put t w o x r most e h p = rw e (omega arith, p .0, omega arith)
 pub too-long-put : (t o x : List ℕ) (r : ℕ) → t ≡ tooLong → (x ≡ sets o 0 tooLong) × (r ≡ 0 + 15) → (r ≡ length t) × (x ≡ sets o 0 t) × (r ≤ 8192)
 unfolding tooLong plain
 too-long-put t o x r e p = front-put t tooLong o x r 15 e (omega arith) (p .0, p .1, omega arith)
+
+-- the bytes of a held job: there is room for them, so they are written
+module _ (h : Stars) (o x : List ℕ) (w : Written) (l : length (writeJob (jobOf h)) ≤ 8192) (k : length o ≡ 8192)
+    (p : (replied w ≡ writing (writeJob (jobOf h)) o .reply) × (x ≡ writing (writeJob (jobOf h)) o .buffer)) where
+  job-written : (replied w ≡ wrote (length (writeJob (jobOf h)))) × (x ≡ writeJob (jobOf h) ++ drop (length (writeJob (jobOf h))) o)
+  unfolding writing writes
+  job-written =
+      let z : leb (length (writeJob (jobOf h))) (length o) ≡ true = le-leb (length (writeJob (jobOf h))) (length o) (omega arith) in
+      rw z at p
+
+  pub bytes-put : (n : ℕ) → w ≡ Wrote n → (n ≡ length (writeJob (jobOf h))) × (x ≡ sets o 0 (writeJob (jobOf h))) × (n ≤ 8192)
+  unfolding replied
+  bytes-put n e =
+      let q : wrote n ≡ wrote (length (writeJob (jobOf h))) = rw e at (job-written .0) in
+      let d : n ≡ length (writeJob (jobOf h)) = cc in
+      let z : 0 + length (writeJob (jobOf h)) ≡ length (writeJob (jobOf h)) = omega arith in
+      (d, job-written .1 ∙ sym (sets-eq (writeJob (jobOf h)) o 0 (omega arith) ∙ rw z), omega arith)
+
+  pub never-short : {X : Type 0} → w ≡ TooShort → X
+  unfolding replied
+  never-short {X} e =
+      let q : refusal 14 ≡ wrote (length (writeJob (jobOf h))) = rw e at (job-written .0) in
+      let z : _≡_ {A = ℕ} 0 1 = cc in
+      absurd (omega arith)
 
 -- a job that can be written, or refusal 4
 module _ (h : Stars) (b : Bool) (e : b ≡ sided (jobOf h)) (o x : List ℕ) (r : ℕ) where
@@ -107,3 +141,49 @@ module _ (bs : List ℕ) where
       pub refused-text : (k : ℕ) → q .answer ≡ Refused k → textOf bs ≡ refusedWord ++ line (k ∷ [])
       unfolding textAnswer outcome said
       refused-text k d = rw (short-text, three-refused (readJob bs) k (sym (t .says) ∙ rw d))
+
+-- what is printed for some text
+module _ (t : List ℕ) where
+  pub long-job : 16384 < length t → textJob t ≡ tooLong
+  unfolding textJob
+  long-job h = let z : leb (length t) 16384 ≡ false = lt-leb (length t) 16384 h in rw z
+
+  short-job : length t ≤ 16384 → textJob t ≡ jobAnswer (readText t)
+  unfolding textJob
+  short-job l = let z : leb (length t) 16384 ≡ true = le-leb (length t) 16384 l in rw z
+
+  module _ (q : Taken) (e : takenOf q ≡ finish noStars 0 (readText t)) where
+    read-wrong : (x : Lack) → q .verdict ≡ Wrong x → readText t ≡ wrongLine (q .line) (lackOf x)
+    unfolding takenOf toldText finish
+    read-wrong x d = go (readText t) (sym (rw d at e))
+      where
+        go : (r : TextRead) → finish noStars 0 r ≡ wrongAt (q .line) (lackOf x) → r ≡ wrongLine (q .line) (lackOf x)
+        go (wrongLine k y) f = let a : k ≡ q .line = cc in let b : y ≡ lackOf x = cc in rw (a, b)
+        go (aJob j) f = let z : _≡_ {A = ℕ} 0 1 = cc in absurd (omega arith)
+
+    read-right : q .verdict ≡ Right → readText t ≡ aJob (jobOf (q .stars))
+    unfolding takenOf toldText finish heldOf
+    read-right d = go (readText t) (text-within t) (sym (rw d at e))
+      where
+        go : (r : TextRead) → Within (length t + 1) 4 360 r → finish noStars 0 r ≡ allHeld (q .stars) → r ≡ aJob (jobOf (q .stars))
+        go (wrongLine k y) w f = let z : _≡_ {A = ℕ} 0 1 = cc in absurd (omega arith)
+        go (aJob j) w f =
+            let g : heldOf j ≡ q .stars = cc in
+            rw (← g, given-back j (omega (arith, w .0)) (w .1) (w .2))
+
+    pub wrong-small : (x : Lack) → q .verdict ≡ Wrong x → length t ≤ 16384 → (q .line < 100000) × (numberIn (lackOf x) < 100000)
+    wrong-small x d l =
+        let w : Within (length t + 1) 4 360 (wrongLine (q .line) (lackOf x)) = rw (read-wrong x d) at (text-within t) in
+        (omega (arith, w .0), omega (arith, w .1))
+
+    pub right-small : q .verdict ≡ Right → length (writeJob (jobOf (q .stars))) ≤ 8192
+    right-small d =
+        let w : Within (length t + 1) 4 360 (aJob (jobOf (q .stars))) = rw (read-right d) at (text-within t) in
+        omega (arith, length-writeJob (jobOf (q .stars)), w .0, w .1)
+
+    pub right-job : length t ≤ 16384 → q .verdict ≡ Right → textJob t ≡ writeJob (jobOf (q .stars))
+    unfolding jobAnswer
+    right-job l d = rw (short-job l, read-right d)
+
+    pub wrong-job : length t ≤ 16384 → (x : Lack) → q .verdict ≡ Wrong x → textJob t ≡ jobAnswer (wrongLine (q .line) (lackOf x))
+    wrong-job l x d = rw (short-job l, read-wrong x d)

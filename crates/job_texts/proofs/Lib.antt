@@ -5,4 +5,7 @@ mod Said
 mod Pieces
 mod RoomLines
 mod AllLines
+mod Limits
+mod Telling
 mod Answers
+pub mod Corollaries

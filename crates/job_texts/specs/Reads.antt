@@ -29,6 +29,16 @@ lackOf Comma = comma
 lackOf NoRoom = noRoom
 lackOf NoContact = noContact
 
+-- the number that it names, if any
+unfoldable pub numberIn : Expected → ℕ
+numberIn (roomNumber r) = r
+numberIn colon = 0
+numberIn side = 0
+numberIn neighbour = 0
+numberIn comma = 0
+numberIn noRoom = 0
+numberIn noContact = 0
+
 -- ---- one contact
 
 -- what stands where a contact should: what is lacking, or an entry and the text of the next thing

@@ -3,7 +3,10 @@ ghost use mathlib.Core.Path.{_≡_};
 ghost use Prim.Native.Nat.{_≤_};
 ghost use lib.ListN.{length};
 ghost use lib.Seq.{sets};
-ghost use Rattle.floor.specs.JobTexts.{textOf};
+ghost use Rattle.floor.specs.Jobs.{writeJob};
+ghost use Rattle.floor.specs.JobTexts.{textOf, jobOf};
+ghost use Rattle.stars.specs.Held.{jobOf as heldJob};
+use fields::Written;
 use jobs::Answer;
 use stars::Stars;
 
@@ -14,6 +17,7 @@ mod values; // values.rt: what a word says
 mod contacts; // contacts.rt: the contacts of a line, read
 mod rows; // rows.rt: a room's line, read
 mod whole; // whole.rt: a text, read line by line
+mod wrong; // wrong.rt: a wrong line, told in words
 
 // What should have stood on a line that is wrong.
 pub enum Lack {
@@ -66,5 +70,34 @@ pub fn text_of(job: &[u8], out: &mut [u8; 8192]) -> usize
     match answer {
         Answer::Passed => write::put_job(stars, out),
         Answer::Refused(k) => letters::line::put_refusal(out, 0, k),
+    }
+}
+
+// The bytes of a held job, at the front; how many they are is handed back.
+fn put_bytes(stars: Stars, out: &mut [u8; 8192]) -> usize
+    requires { ⌜ length (writeJob (heldJob stars)) ≤ 8192 ⌝ }
+    ensures { λ r. ⌜ (r ≡ length (writeJob (heldJob stars))) × (now (out .exit) ≡ sets (now (out .entry)) 0 (writeJob (heldJob stars))) × (r ≤ 8192) ⌝ }
+{
+    let written = jobs::write_job(stars, out);
+    match written {
+        Written::Wrote(n) => n,
+        Written::TooShort => 0,
+    }
+}
+
+// What is printed for the text of a job, at the front; how many bytes that takes is handed back.
+pub fn job_of(text: &[u8], out: &mut [u8; 8192]) -> usize
+    ensures { λ r. ⌜ (r ≡ length (jobOf (now (text .entry)))) × (now (out .exit) ≡ sets (now (out .entry)) 0 (jobOf (now (text .entry))))
+        × (r ≤ 8192) ⌝ }
+{
+    if 16384 < text.len() {
+        return letters::word::put_too_long(out, 0);
+    }
+    let read = whole::read_text(text);
+    let verdict = read.verdict;
+    let stars = read.stars;
+    match verdict {
+        Verdict::Right => put_bytes(stars, out),
+        Verdict::Wrong(lack) => wrong::put_wrong(out, read.line, lack),
     }
 }

@@ -1,0 +1,138 @@
+-- What a text that is read stays within. Assumes nothing.
+use Prim.Native.Nat.{ℕ, zero, suc, _+_, _-_, _*_, _≤_, _<_}
+use mathlib.Core.Path.{_≡_, refl, sym, _∙_, ap}
+use mathlib.Core.Bool.{Bool, true, false, cond, _&&_}
+use mathlib.Core.List.{List, [], _∷_}
+use native.Mathlib.Omega.{arith}
+use borrow.Author.Tests.{leb-true}
+use lib.Dec.{leb, ltb, eqb}
+use lib.ListN.{length, drop}
+use Rattle.floor.specs.Lists.{all, sum}
+use Rattle.floor.specs.Lists.Laws.{and-right}
+use Rattle.floor.specs.Jobs.{Entry, Star, pairsIn, test2}
+use Rattle.floor.specs.JobTexts.{word, next, kindOfWord, vertexOfWord, numberOf, skip, uncommented, nothing, followed, behindContact, contacts}
+use Rattle.floor.specs.JobTexts.{anyContacts, behindNumber, roomLine, longer, lines, behindStar, taken, readLines, readText}
+use Rattle.floor.specs.JobTexts.{Expected, roomNumber, colon, side, neighbour, comma, noRoom, Line, lacks, star, TextRead, wrongLine, aJob}
+use Rattle.stars.specs.Pairs.{pair}
+use Rattle.stars.proofs.Back.{small}
+use Rattle.job_texts.specs.Reads.{numberIn}
+
+-- contacts: no more of them than are left, and every neighbour a byte
+abbrev Few : ℕ → Line → Type 0
+Few left (lacks x) = numberIn x ≤ 64
+Few left (star s) = (length s ≤ left) × (small s ≡ true)
+
+few-behind : (left : ℕ) (e : Entry) (l : Line) → ltb (e .to) 256 ≡ true → Few left l → Few (suc left) (behindContact e l)
+unfolding behindContact all
+few-behind left e (lacks x) t p = p
+few-behind left e (star s) t p = (omega (arith, p .0), rw t (p .1))
+
+few-followed : (left : ℕ) (u : List ℕ) (l : Line) → Few left l → Few left (followed u l)
+unfolding followed all numberIn
+few-followed left [] l p = (omega arith, refl)
+few-followed left (b ∷ u) l p = go (eqb b 44)
+  where
+    go : (x : Bool) → Few left (cond x l (lacks comma))
+    go true = p
+    go false = omega arith
+
+few-contacts : (left : ℕ) (t : List ℕ) → Few left (contacts left t)
+unfolding contacts numberIn
+few-contacts zero t = omega arith
+few-contacts (suc left) t = go (ltb (kindOfWord (word t)) 4) (ltb (vertexOfWord (word (next t))) 256) refl (few-contacts left (skip (drop 1 (next (next t)))))
+  where
+    e : Entry
+    e = pair (vertexOfWord (word (next t))) (kindOfWord (word t))
+
+    u : List ℕ
+    u = next (next t)
+
+    go : (a b : Bool) → ltb (vertexOfWord (word (next t))) 256 ≡ b → Few left (contacts left (skip (drop 1 u)))
+        → Few (suc left) (cond a (cond b (behindContact e (followed u (contacts left (skip (drop 1 u))))) (lacks neighbour)) (lacks side))
+    go true true q p = few-behind left e (followed u (contacts left (skip (drop 1 u)))) q (few-followed left u (contacts left (skip (drop 1 u))) p)
+    go true false q p = omega arith
+    go false b q p = omega arith
+
+few-any : (left : ℕ) (t : List ℕ) → Few left (anyContacts left t)
+unfolding anyContacts all
+few-any left [] = (omega arith, refl)
+few-any left (b ∷ t) = few-contacts left (b ∷ t)
+
+few-number : (left : ℕ) (t : List ℕ) → Few left (behindNumber left t)
+unfolding behindNumber numberIn
+few-number left [] = omega arith
+few-number left (b ∷ t) = go (eqb b 58)
+  where
+    go : (x : Bool) → Few left (cond x (anyContacts left (skip t)) (lacks colon))
+    go true = few-any left (skip t)
+    go false = omega arith
+
+-- a room's line: besides, no room above the sixtieth
+abbrev Fits : ℕ → ℕ → Line → Type 0
+Fits left r (lacks x) = numberIn x ≤ 64
+Fits left r (star s) = (r ≤ 63) × (length s ≤ left) × (small s ≡ true)
+
+line-fits : (left r : ℕ) (t : List ℕ) → r ≤ 64 → Fits left r (roomLine left r t)
+unfolding roomLine test2 numberIn
+line-fits left r t h = go (leb 1 (r - 3) && leb (r - 3) 60) refl (eqb (numberOf (word t)) r) (behindNumber left (next t)) (few-number left (next t))
+  where
+    star-fits : (l : Line) → r - 3 ≤ 60 → Few left l → Fits left r l
+    star-fits (lacks x) g p = p
+    star-fits (star s) g p = (omega arith, p .0, p .1)
+
+    go : (a : Bool) → (leb 1 (r - 3) && leb (r - 3) 60) ≡ a → (b : Bool) (l : Line) → Few left l
+        → Fits left r (cond a (cond b l (lacks (roomNumber r))) (lacks noRoom))
+    go true q true l p = star-fits l (leb-true (r - 3) 60 (and-right (leb 1 (r - 3)) (leb (r - 3) 60) q)) p
+    go true q false l p = h
+    go false q b l p = omega arith
+
+-- a whole text
+abbrev pub Within : ℕ → ℕ → ℕ → TextRead → Type 0
+Within top r left (wrongLine k x) = (k ≤ top) × (numberIn x ≤ 64)
+Within top r left (aJob j) = (r + length j ≤ 64) × (pairsIn j ≤ left) × (all small j ≡ true)
+
+within-star : (top r left : ℕ) (s : Star) (x : TextRead) → length s ≤ left → small s ≡ true → Within top (suc r) (left - length s) x
+    → Within top r left (behindStar s x)
+unfolding behindStar pairsIn sum all
+within-star top r left s (wrongLine k y) l t p = p
+within-star top r left s (aJob j) l t p = (omega (arith, p .0), omega (arith, p .1), rw t (p .2))
+
+within-up : (top top′ r left : ℕ) (x : TextRead) → top ≤ top′ → Within top r left x → Within top′ r left x
+within-up top top′ r left (wrongLine k y) l p = (omega (arith, p .0), p .1)
+within-up top top′ r left (aJob j) l p = p
+
+lines-within : (ls : List (List ℕ)) (i r left : ℕ) → r ≤ 64 → Within (i + length ls) r left (readLines i r left ls)
+unfolding readLines taken numberIn pairsIn sum all
+lines-within [] i r left h = go (eqb r 4)
+  where
+    go : (b : Bool) → Within (i + 0) r left (cond b (wrongLine i (roomNumber 4)) (aJob []))
+    go true = (omega arith, omega arith)
+    go false = (omega arith, omega arith, refl)
+lines-within (l ∷ ls) i r left h =
+    go (nothing (skip (uncommented l))) (roomLine left r (skip (uncommented l))) (line-fits left r (skip (uncommented l)) h)
+    (λ r′ left′ h′. lines-within ls (suc i) r′ left′ h′)
+  where
+    go : (b : Bool) (y : Line) → Fits left r y → ((r′ left′ : ℕ) → r′ ≤ 64 → Within (suc i + length ls) r′ left′ (readLines (suc i) r′ left′ ls))
+        → Within (i + suc (length ls)) r left
+        (cond b (readLines (suc i) r left ls) (taken (suc i) y (λ s. behindStar s (readLines (suc i) (suc r) (left - length s) ls))))
+    go true y p below = within-up (suc i + length ls) (i + suc (length ls)) r left (readLines (suc i) r left ls) (omega arith) (below r left h)
+    go false (lacks x) p below = (omega arith, p)
+    go false (star s) p below =
+        let rest : TextRead = readLines (suc i) (suc r) (left - length s) ls in
+        within-up (suc i + length ls) (i + suc (length ls)) r left (behindStar s rest) (omega arith)
+        (within-star (suc i + length ls) r left s rest (p .1) (p .2) (below (suc r) (left - length s) (omega (arith, p .0))))
+
+few-lines : (t : List ℕ) → length (lines t) ≤ length t + 1
+unfolding lines longer
+few-lines [] = omega arith
+few-lines (b ∷ t) = go (eqb b 10) (lines t) (few-lines t)
+  where
+    go : (x : Bool) (ls : List (List ℕ)) → length ls ≤ length t + 1 → length (cond x ([] ∷ ls) (longer b ls)) ≤ suc (length t) + 1
+    go true ls h = omega arith
+    go false [] h = omega arith
+    go false (l ∷ ls) h = omega arith
+
+-- NO LINE PAST THE LAST, NO MORE THAN 60 ROOMS AND 360 CONTACTS, and every neighbour a byte
+pub text-within : (t : List ℕ) → Within (length t + 1) 4 360 (readText t)
+unfolding readText
+text-within t = within-up (0 + length (lines t)) (length t + 1) 4 360 (readText t) (omega (arith, few-lines t)) (lines-within (lines t) 0 4 360 (omega arith))

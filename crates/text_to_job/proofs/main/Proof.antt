@@ -1,0 +1,52 @@
+use mathlib.Core.Path.{sym}
+use lib.Seq.{length-take-le}
+use Rattle.floor.specs.JobTexts.{jobOf}
+use Rattle.letters.proofs.Corollaries.{text-fits}
+use borrow.Author.Needs.{needs}
+use Rattle.text_to_job.proofs.main.Statement.{statement}
+use Rattle.text_to_job.proofs.main.Tie as tie
+
+slice-aggregate-read-full : tie.Need-slice-aggregate-read-full
+slice-aggregate-read-full c = search needs
+
+read-full-requires : tie.Need-read-full-requires
+read-full-requires c κs = search needs
+
+page-requires : tie.Need-page-requires
+page-requires c κs = search needs
+
+array-share-prefix-input : tie.Need-array-share-prefix-input
+array-share-prefix-input c = search needs
+
+slice-aggregate-job-of : tie.Need-slice-aggregate-job-of
+slice-aggregate-job-of c = search needs
+
+job-of-requires : tie.Need-job-of-requires
+job-of-requires c κs = search needs
+
+array-share-prefix-out : tie.Need-array-share-prefix-out
+array-share-prefix-out c = text-fits (jobOf _) _ _ _ (c .job-of .ensures) (c .before .before .before .page .ensures)
+
+slice-aggregate-write-all : tie.Need-slice-aggregate-write-all
+slice-aggregate-write-all c = sym (length-take-le _ _ (text-fits (jobOf _) _ _ _ (c .before .job-of .ensures) (c .before .before .before .before .page .ensures)))
+
+write-all-requires : tie.Need-write-all-requires
+write-all-requires c κs = search needs
+
+returns : tie.Need-returns
+returns c = search needs
+
+pub main-spec : {M : Type 1} → statement M
+main-spec =
+    tie.close
+    (tie.spec
+    slice-aggregate-read-full
+    read-full-requires
+    page-requires
+    array-share-prefix-input
+    slice-aggregate-job-of
+    job-of-requires
+    array-share-prefix-out
+    slice-aggregate-write-all
+    write-all-requires
+    returns)
