@@ -8,6 +8,9 @@ ghost use Rattle.jobs.specs.Reads.{Tells};
 use crate::Answer;
 use crate::Read;
 
+// Test 3: as many pairs as a job may have.
+const MOST_PAIRS: usize = 360;
+
 // Refused: the number, and no stars.
 pub fn refused(k: u8) -> Read
     ensures { λ r. ⌜ Tells r (fails k) ⌝ }
@@ -24,7 +27,7 @@ pub fn kept(job: &[u8], n: u8, at: usize, pairs: usize) -> Read
     requires { ⌜ (n ≤ 60) × (pairs ≡ pairsIn (starsAt n (drop at (now job)))) ⌝ }
     ensures { λ r. ⌜ Tells r (firstThree (reads (starsAt n (drop at (now (job .entry)))))) ⌝ }
 {
-    if 360 < pairs {
+    if MOST_PAIRS < pairs {
         return refused(3);
     }
     let stars = crate::fill::hold(job, at, n);
@@ -39,7 +42,7 @@ pub fn tested(job: &[u8], n: u8, at: usize, pairs: usize) -> Read
     requires { ⌜ (n ≤ 60) × (pairs ≡ pairsIn (starsAt n (drop at (now job)))) ⌝ }
     ensures { λ r. ⌜ Tells r (firstSix (reads (starsAt n (drop at (now (job .entry)))))) ⌝ }
 {
-    if 360 < pairs {
+    if MOST_PAIRS < pairs {
         return refused(3);
     }
     if !crate::walk::entries_pass(job, at, n) {
