@@ -15,7 +15,6 @@ use stars::Stars;
 mod steps; // steps.rt: one rule, and what it does to the numbers
 mod rules; // rules.rt: the rules of an entry, a star, a room, a job
 mod vertices; // vertices.rt: whether every neighbour is a vertex of the job
-mod order; // order.rt: an order of the rules in which few passes are needed
 mod number; // number.rt: the numbers in one direction
 
 // What running some rules did to the numbers: nothing was to do, a number was raised, or one would pass the top.

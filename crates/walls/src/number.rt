@@ -213,7 +213,7 @@ fn climb_all<'a>(
     let cross = crate::rules::cross_of(way);
     let mut owner = [0u16; 360];
     let mut visits = [0u16; 1440];
-    let span = crate::order::order_of(
+    let span = orders::order_of(
         far,
         near,
         cross,
