@@ -194,7 +194,42 @@ fn go_round<'a>(
     done
 }
 
-// The visits of an order, and then those of its circle, if it has one, again and again.
+// The visits of an order, and then those of its circle, from a place on, again and again.
+fn climb_both<'a>(
+    f: &mut [u16],
+    way: Direction,
+    ends: &'a [u16],
+    nbr: &'a [u16],
+    kind: &'a [u8],
+    count: usize,
+    owner: &'a [u16],
+    visits: &'a [u16],
+    again: usize,
+    many: usize,
+    top: u16,
+) -> Step
+    requires { ⌜ (count < 256) × (length (now f) ≡ 2 * (count + 4)) × (named (length (now f)) (starsIn count 0 (now ends) (now nbr) (now kind)) ≡ true) ⌝ }
+    ensures { λ r. ⌜ Climbs r (rules (axisOf way) (starsIn count 0 (now (ends .entry)) (now (nbr .entry)) (now (kind .entry))))
+        (now (f .entry)) (now (f .exit)) top ⌝ }
+{
+    let once = climb(f, way, ends, nbr, kind, count, owner, visits, 0, many, top);
+    let round = go_round(
+        f,
+        way,
+        ends,
+        nbr,
+        kind,
+        count,
+        owner,
+        visits,
+        again,
+        many,
+        top,
+    );
+    crate::steps::both_of(once, round)
+}
+
+// The visits of a good order.
 fn climb_all<'a>(
     f: &mut [u16],
     way: Direction,
@@ -226,20 +261,7 @@ fn climb_all<'a>(
     );
     let many = span.many;
     let again = span.again;
-    let once = climb(
-        f,
-        way,
-        ends,
-        nbr,
-        kind,
-        count,
-        &owner,
-        &visits,
-        0,
-        many,
-        top,
-    );
-    let round = go_round(
+    climb_both(
         f,
         way,
         ends,
@@ -251,8 +273,7 @@ fn climb_all<'a>(
         again,
         many,
         top,
-    );
-    crate::steps::both_of(once, round)
+    )
 }
 
 // The numbers of the text, left in f; or false where the walls run in a circle, and noughts.
