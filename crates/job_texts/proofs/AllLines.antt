@@ -1,5 +1,5 @@
 -- A text, line by line, as the code comes by it. Assumes nothing.
-use Prim.Native.Nat.{ℕ, zero, suc, _+_, _-_, _<_, _≤_}
+use Prim.Native.Nat.{ℕ, suc, _+_, _-_, _<_, _≤_}
 use mathlib.Core.Path.{_≡_, refl, sym, _∙_, ap}
 use mathlib.Core.Bool.{Bool, true, false, cond}
 use mathlib.Core.List.{List, [], _∷_}
@@ -15,12 +15,10 @@ use Rattle.stars.specs.declared.Stars.{Stars}
 use Rattle.stars.specs.Held.{noStars, putStar, putAll}
 use Rattle.job_texts.specs.declared.Lack.{Lack}
 use Rattle.job_texts.specs.declared.Lack.the-variants.{RoomNumber}
-use Rattle.job_texts.specs.declared.Verdict.{Verdict}
 use Rattle.job_texts.specs.declared.Verdict.the-variants.{Right, Wrong}
 use Rattle.job_texts.specs.declared.Row.{Row}
-use Rattle.job_texts.specs.declared.Taken.{Taken}
 use Rattle.job_texts.specs.Places.{place, linesFrom}
-use Rattle.job_texts.specs.Reads.{lackOf, Put, bad, good, putLine, onLine, toldRow, rowOf, Kept, wrongAt, allHeld, finish, onLines, toldText, takenOf}
+use Rattle.job_texts.specs.Reads.{lackOf, Put, bad, good, putLine, onLine, toldRow, rowOf, Kept, wrongAt, finish, onLines, toldText, takenOf}
 use Rattle.job_texts.proofs.Spaced.{place-short}
 
 -- lines from a place of what is behind another

@@ -1,6 +1,6 @@
 -- What a text that is read stays within. Assumes nothing.
-use Prim.Native.Nat.{ℕ, zero, suc, _+_, _-_, _*_, _≤_, _<_}
-use mathlib.Core.Path.{_≡_, refl, sym, _∙_, ap}
+use Prim.Native.Nat.{ℕ, zero, suc, _+_, _-_, _≤_}
+use mathlib.Core.Path.{_≡_, refl}
 use mathlib.Core.Bool.{Bool, true, false, cond, _&&_}
 use mathlib.Core.List.{List, [], _∷_}
 use native.Mathlib.Omega.{arith}
@@ -12,7 +12,7 @@ use Rattle.floor.specs.Lists.Laws.{and-right}
 use Rattle.floor.specs.Jobs.{Entry, Star, pairsIn, test2}
 use Rattle.floor.specs.JobTexts.{word, next, kindOfWord, vertexOfWord, numberOf, skip, uncommented, nothing, followed, behindContact, contacts}
 use Rattle.floor.specs.JobTexts.{anyContacts, behindNumber, roomLine, longer, lines, behindStar, taken, readLines, readText}
-use Rattle.floor.specs.JobTexts.{Expected, roomNumber, colon, side, neighbour, comma, noRoom, Line, lacks, star, TextRead, wrongLine, aJob}
+use Rattle.floor.specs.JobTexts.{roomNumber, colon, side, neighbour, comma, noRoom, Line, lacks, star, TextRead, wrongLine, aJob}
 use Rattle.stars.specs.Pairs.{pair}
 use Rattle.stars.proofs.Back.{small}
 use Rattle.job_texts.specs.Reads.{numberIn}

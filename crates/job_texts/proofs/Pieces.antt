@@ -1,16 +1,16 @@
 -- The contacts of a line, one by one, as the code comes by them. Assumes nothing.
-use Prim.Native.Nat.{ℕ, zero, suc, _+_, _-_, _<_, _≤_}
-use mathlib.Core.Path.{_≡_, refl, sym, _∙_, ap}
+use Prim.Native.Nat.{ℕ, suc, _+_, _-_, _<_, _≤_}
+use mathlib.Core.Path.{_≡_, refl, sym, _∙_}
 use mathlib.Core.Bool.{Bool, true, false, cond}
 use mathlib.Core.List.{List, [], _∷_}
 use native.Mathlib.Omega.{arith}
 use borrow.Author.Tests.{lt-ltb, le-ltb, eq-eqb, ne-eqb}
 use lib.Dec.{ltb}
 use lib.ListN.{length, getD, drop, drop-of-length-le}
-use lib.Seq.{drop-cons, drop-drop}
+use lib.Seq.{drop-cons}
 use Rattle.floor.specs.Jobs.{Entry}
 use Rattle.floor.specs.JobTexts.{word, next, kindOfWord, vertexOfWord, skip, followed, behindContact, contacts}
-use Rattle.floor.specs.JobTexts.{side, neighbour, comma, noContact, Line, lacks, star}
+use Rattle.floor.specs.JobTexts.{side, neighbour, comma, Line, lacks, star}
 use Rattle.stars.specs.declared.Stars.{Stars}
 use Rattle.stars.specs.Pairs.{pair}
 use Rattle.job_texts.specs.declared.Lack.{Lack}

@@ -1,6 +1,6 @@
 -- A room's line, as the code comes by it. Assumes nothing.
 use Prim.Native.Nat.{ℕ, suc, _+_, _-_, _<_, _≤_}
-use mathlib.Core.Path.{_≡_, refl, sym, _∙_, ap}
+use mathlib.Core.Path.{_≡_, refl, _∙_, ap}
 use mathlib.Core.Bool.{true, false}
 use mathlib.Core.List.{List, [], _∷_, map}
 use native.Mathlib.Omega.{arith}
@@ -16,7 +16,7 @@ use Rattle.job_texts.specs.declared.Lack.{Lack}
 use Rattle.job_texts.specs.declared.Lack.the-variants.{RoomNumber, Colon, NoRoom}
 use Rattle.job_texts.specs.declared.Verdict.the-variants.{Right, Wrong}
 use Rattle.job_texts.specs.declared.Row.{Row}
-use Rattle.job_texts.specs.Reads.{lackOf, bad, good, putEntry, putEntries, closeAt, putContacts, closePut, putLine, onLine, toldRow, rowOf}
+use Rattle.job_texts.specs.Reads.{lackOf, good, putEntry, putEntries, closeAt, putContacts, closePut, putLine, onLine, toldRow, rowOf}
 use Rattle.job_texts.proofs.Pieces.{told-wrong, told-right}
 
 -- a star closed
