@@ -6,7 +6,6 @@ ghost use Rattle.board.specs.Boards.{boardOf};
 use board::Board;
 
 mod answer; // answer.rt: an answer as one number
-mod front; // front.rt: bytes put to the front of a lent buffer
 
 // An answer from here on is no refusal.
 const FIRST_VALUE: usize = 256;
@@ -85,8 +84,8 @@ pub extern "C" fn tirunoiwa_star(job: &[u8], room: usize, out: &mut [u8]) -> usi
     if out.len() < star.len() {
         return TOO_SHORT;
     }
-    front::put_front(out, star);
-    FIRST_VALUE + star.len()
+    let length = letters::word::put_word(out, 0, star);
+    FIRST_VALUE + length
 }
 
 // Whether two vertices of a job share a wall length of at least 1.

@@ -9,8 +9,8 @@ raw-star-requires c κs = search needs
 returns : tie.Need-returns
 returns c = star-short _ _ _ _ (c .before .raw-star .ensures) (c .if1 .taken)
 
-put-front-requires : tie.Need-put-front-requires
-put-front-requires c κs = search needs
+put-word-requires : tie.Need-put-word-requires
+put-word-requires c κs = search needs
 
 add-result : tie.Need-add-result
 add-result c = search needs
@@ -21,9 +21,9 @@ same-length c = search needs
 returns-2 : tie.Need-returns-2
 returns-2 c =
     let asked = c .before .before .before .before in
-    star-put _ _ _ _ (asked .before .raw-star .ensures) _ (asked .if1 .left) (c .before .before .put-front .ensures)
+    star-put _ _ _ _ (asked .before .raw-star .ensures) _ _ (asked .if1 .left) (c .before .before .put-word .ensures .0) (c .before .before .put-word .ensures .1)
 
 pub tirunoiwa-star-spec : {M : Type 1} → statement M
 tirunoiwa-star-spec =
     tie.close
-    (tie.spec raw-star-requires returns put-front-requires add-result same-length returns-2)
+    (tie.spec raw-star-requires returns put-word-requires add-result same-length returns-2)
