@@ -1,4 +1,5 @@
-// The wall numbers of examples: the sheet and, room by room, its four walls; or that the walls run in a circle.
+// The wall numbers of jobs on standard input, ten fields with a job each: the sheet and, room by room, its four walls, or that the walls run in a
+// circle, and how many upright walls have the number 2; then those of two stars made by hand.
 ghost use Prim.Native.Nat.{_<_};
 use jobs::Answer;
 use stars::Stars;
@@ -216,83 +217,23 @@ fn one_room(east: u16) -> Stars {
     }
 }
 
-// The star of a room between N and S, with its neighbours to the left and to the right.
-fn put_star(job: &mut [u8; 664], i: usize, left: u8, right: u8) {
-    if 59 < i {
-        return;
-    }
-    let at = 4 + 11 * i;
-    job[at] = 2;
-    job[at + 2] = 8;
-    job[at + 5] = left;
-    job[at + 6] = 1;
-    job[at + 7] = 2;
-    job[at + 8] = 2;
-    job[at + 9] = right;
-    job[at + 10] = 3;
-}
-
-// 60 rooms in a row.
-fn put_row(job: &mut [u8; 664]) {
-    job[0] = 1;
-    job[2] = 1;
-    job[3] = 60;
-    put_star(job, 0, 1, 5);
-    let mut i: u8 = 1;
-    while i < 59 {
-        put_star(job, i as usize, 3 + i, 5 + i);
+// The walls of the jobs on standard input, a field each, as many as are shown.
+fn show_jobs(input: &[u8]) {
+    let mut at: usize = 0;
+    let mut i: usize = 0;
+    while i < 10 {
+        let job = fields::value_at(input, at);
+        show(b"job", job);
+        show_twos(job);
+        at = fields::after_at(input, at);
         i += 1;
     }
-    put_star(job, 59, 62, 3);
-}
-
-// A name, and the walls of 60 rooms.
-fn show_sixty(name: &[u8], job: &[u8; 664]) {
-    show(name, job);
-}
-
-// The walls of 60 rooms in a row.
-fn show_row() {
-    let mut job = [0u8; 664];
-    put_row(&mut job);
-    show_sixty(b"60 in a row", &job);
 }
 
 fn main() {
-    show(
-        b"P1",
-        b"\x01\x00\x01\x01\x02\x00\x08\x00\x00\x01\x01\x02\x02\x03\x03",
-    );
-    show(b"P2", b"\x01\x00\x01\x00");
-    show(
-        b"P5",
-        b"\x01\x00\x01\x02\x02\x00\x08\x00\x00\x01\x01\x02\x02\x05\x03\x02\x00\x08\x00\x00\x04\x01\x02\x02\x03\x03",
-    );
-    show(
-        b"P6",
-        b"\x01\x00\x01\x02\x02\x00\x08\x00\x00\x01\x01\x02\x02\x03\x03\x02\x00\x08\x00\x00\x01\x01\x02\x02\x03\x03",
-    );
-    show(
-        b"P7",
-        b"\x01\x00\x01\x03\x02\x00\x08\x00\x00\x06\x01\x02\x02\x05\x03\x02\x00\x08\x00\x00\x04\x01\x02\x02\x06\x03\x02\x00\x08\x00\x00\x05\x01\x02\x02\x04\x03",
-    );
-    show(
-        b"F",
-        b"\x01\x00\x01\x04\x02\x00\x08\x00\x00\x01\x01\x06\x02\x05\x03\x02\x00\x0a\x00\x00\x04\x01\x06\x01\x07\x02\x03\x03\x02\x00\x0a\x04\x00\x01\x01\x02\x02\x07\x03\x05\x03\x02\x00\x08\x05\x00\x06\x01\x02\x02\x03\x03",
-    );
-    show(
-        b"F turned",
-        b"\x01\x00\x01\x04\x02\x00\x08\x00\x00\x01\x01\x06\x02\x05\x03\x02\x00\x0a\x00\x00\x04\x01\x06\x02\x07\x02\x03\x03\x02\x00\x0a\x05\x00\x04\x00\x01\x01\x02\x02\x07\x03\x02\x00\x08\x05\x00\x06\x01\x02\x02\x03\x03",
-    );
-    let ten =
-        b"\x01\x00\x01\x04\x02\x00\x08\x00\x00\x01\x01\x06\x02\x05\x03\x02\x00\x08\x00\x00\x04\x01\x07\x02\x03\x03\x02\x00\x08\x04\x00\x01\x01\x02\x02\x07\x03\x02\x00\x08\x05\x00\x06\x01\x02\x02\x03\x03";
-    show(b"P10", ten);
-    show_twos(ten);
-    show(
-        b"4 below 5 and 6",
-        b"\x01\x00\x01\x03\x02\x00\x0a\x06\x00\x05\x00\x01\x01\x02\x02\x03\x03\x02\x00\x08\x00\x00\x01\x01\x04\x02\x06\x03\x02\x00\x08\x00\x00\x05\x01\x04\x02\x03\x03",
-    );
-    show_row();
+    let mut input = [0u8; 2048];
+    let n = io::read_full(0, &mut input);
+    show_jobs(&input[..n]);
     show_stars(b"one room, held", one_room(3));
     show_stars(b"one room, neighbour 5", one_room(5));
 }
