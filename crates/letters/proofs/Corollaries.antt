@@ -1,10 +1,15 @@
--- What follows from a promise on a text put at the front of a buffer. Assumes nothing.
+-- What follows from a promise on a text put at a place, or at the front, of a buffer. Assumes nothing.
 use Prim.Native.Nat.{ℕ, _≤_}
 use mathlib.Core.Path.{_≡_, sym, ap, _∙_}
 use mathlib.Core.List.{List}
 use native.Mathlib.Omega.{arith}
 use lib.ListN.{length}
 use lib.Seq.{sets, length-sets}
+use Rattle.letters.specs.Puts.{Puts}
+
+-- A PROMISE ON A TEXT PUT AT A PLACE allows one place behind it and one buffer
+pub one-put : (o t : List ℕ) (at r s : ℕ) (x y : List ℕ) → Puts o at t x r → Puts o at t y s → (r ≡ s) × (x ≡ y)
+one-put o t at r s x y p q = (p .place ∙ sym (q .place), p .buffer ∙ sym (q .buffer))
 
 module _ (t o : List ℕ) where
   -- A PROMISE ON A TEXT PUT AT THE FRONT allows one length and one buffer

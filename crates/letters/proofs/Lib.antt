@@ -1,4 +1,3 @@
-mod Numbers
-mod Words
+pub mod Numbers
 pub mod Rows
 pub mod Corollaries

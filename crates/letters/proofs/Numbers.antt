@@ -1,97 +1,89 @@
--- Numbers in decimal, digit by digit, as the code comes by them. Assumes nothing.
-use Prim.Native.Nat.{ℕ, zero, suc, _+_, _-_, _/_, _%_, _<_, _≤_}
+-- Numbers in decimal, from the last digit to the first, as the code comes by them. Assumes nothing.
+use Prim.Native.Nat.{ℕ, zero, suc, _+_, _-_, _*_, _/_, _%_, _^_, _<_, _≤_}
 use mathlib.Core.Path.{_≡_, refl, sym, _∙_}
-use mathlib.Core.List.{List, [], _∷_, _++_, append-assoc, append-nil}
+use mathlib.Core.List.{List, [], _∷_}
 use native.Mathlib.Omega.{arith}
+use native.Mathlib.Decide.{decLt}
 use borrow.Author.Tests.{lt-ltb, le-ltb}
-use lib.ListN.{length, set, length-append}
-use lib.Seq.{sets, set-comm}
+use lib.ListN.{length, set, take, drop, length-set, length-drop, drop-of-length-le}
+use lib.Seq.{take-all, drop-cons, drop-set-lt, getD-set-same}
 use Rattle.floor.specs.Texts.{digits, decimal}
-use Rattle.fields.proofs.Puts.{sets-append}
-use Rattle.letters.specs.Digits.{lastDigits}
 
-pub length-last : (k n : ℕ) → length (lastDigits k n) ≡ k
-unfolding lastDigits
-length-last zero n = refl
-length-last (suc k) n =
-    let d : List ℕ = (48 + n % 10) ∷ [] in
-    omega (arith, length-append (lastDigits k (n / 10)) d, length-last k (n / 10))
+-- fuel left over changes nothing
+same-fuel : (f g n : ℕ) (t : List ℕ) → n < f → n < g → digits f n t ≡ digits g n t
+unfolding digits
+same-fuel zero g n t h k = absurd (omega arith)
+same-fuel (suc f) zero n t h k = absurd (omega arith)
+same-fuel (suc f) (suc g) n t h k = go (decLt n 10) (same-fuel f g (n / 10) ((48 + n % 10) ∷ t))
+  where
+    go : Dec (n < 10) → (n / 10 < f → n / 10 < g → digits f (n / 10) ((48 + n % 10) ∷ t) ≡ digits g (n / 10) ((48 + n % 10) ∷ t))
+        → digits (suc f) n t ≡ digits (suc g) n t
+    go (yes l) rest = rw (lt-ltb n 10 l)
+    go (no l) rest = rw (le-ltb n 10 (omega arith)) (rest (omega arith) (omega arith))
 
--- a number of one digit, and one of a digit more than another
-last-digit : (k n : ℕ) (t : List ℕ) → n < 10 → digits (suc k) n t ≡ lastDigits 1 n ++ t
-unfolding digits lastDigits
-last-digit k n t h =
-    let e : n % 10 ≡ n = omega arith in
-    rw (lt-ltb n 10 h, e)
+-- the digits of what is left of a number, put before those that stand on the page
+module _ (page w : List ℕ) (start n : ℕ) (l : length page ≡ 20) where
+  put-before : (b : ℕ) → 0 < start → start ≤ 20 → drop (start - 1) (set page (start - 1) b) ≡ b ∷ drop start page
+  put-before b h k =
+      let e : suc (start - 1) ≡ start = omega arith in
+      let m : start - 1 < length (set page (start - 1) b) = omega (arith, length-set page (start - 1) b) in
+      drop-cons (set page (start - 1) b) (start - 1) 0 m
+      ∙ rw (getD-set-same page (start - 1) b 0 (omega arith), e, drop-set-lt start page (start - 1) b (omega arith))
 
-one-more : (j k n : ℕ) (t : List ℕ) → 10 ≤ n → ((s : List ℕ) → digits k (n / 10) s ≡ lastDigits j (n / 10) ++ s)
-    → digits (suc k) n t ≡ lastDigits (suc j) n ++ t
-unfolding digits lastDigits
-one-more j k n t h f = rw (le-ltb n 10 h) (f ((48 + n % 10) ∷ t) ∙ sym (append-assoc (lastDigits j (n / 10)) ((48 + n % 10) ∷ []) t))
+  pub digit-more : digits (suc n) n (drop start page) ≡ w → 10 ≤ n → 0 < start → start ≤ 20
+      → digits (suc (n / 10)) (n / 10) (drop (start - 1) (set page (start - 1) (48 + n % 10))) ≡ w
+  unfolding digits
+  digit-more inv h s k =
+      rw (put-before (48 + n % 10) s k)
+      (same-fuel (suc (n / 10)) n (n / 10) ((48 + n % 10) ∷ drop start page) (omega arith) (omega arith) ∙ next)
+    where
+      next : digits n (n / 10) ((48 + n % 10) ∷ drop start page) ≡ w
+      next = rw (le-ltb n 10 h) at inv
 
--- the digits of numbers of two, three, four and five, whatever fuel is left over
-two-digits : (k n : ℕ) (t : List ℕ) → 10 ≤ n → n < 100 → digits (suc (suc k)) n t ≡ lastDigits 2 n ++ t
-two-digits k n t h l = one-more 1 (suc k) n t h (λ s. last-digit k (n / 10) s (omega arith))
+  pub digit-last : digits (suc n) n (drop start page) ≡ w → n < 10 → 0 < start → start ≤ 20 → drop (start - 1) (set page (start - 1) (48 + n)) ≡ w
+  unfolding digits
+  digit-last inv h s k = put-before (48 + n) s k ∙ (rw (lt-ltb n 10 h) at inv)
 
-three-digits : (k n : ℕ) (t : List ℕ) → 100 ≤ n → n < 1000 → digits (suc (suc (suc k))) n t ≡ lastDigits 3 n ++ t
-three-digits k n t h l = one-more 2 (suc (suc k)) n t (omega arith) (λ s. two-digits k (n / 10) s (omega arith) (omega arith))
-
-four-digits : (k n : ℕ) (t : List ℕ) → 1000 ≤ n → n < 10000 → digits (suc (suc (suc (suc k)))) n t ≡ lastDigits 4 n ++ t
-four-digits k n t h l = one-more 3 (suc (suc (suc k))) n t (omega arith) (λ s. three-digits k (n / 10) s (omega arith) (omega arith))
-
-five-digits : (k n : ℕ) (t : List ℕ) → 10000 ≤ n → n < 100000 → digits (suc (suc (suc (suc (suc k))))) n t ≡ lastDigits 5 n ++ t
-five-digits k n t h l = one-more 4 (suc (suc (suc (suc k)))) n t (omega arith) (λ s. four-digits k (n / 10) s (omega arith) (omega arith))
-
-by-fuel : (f n j : ℕ) → suc n ≡ f → digits f n [] ≡ lastDigits j n ++ [] → decimal n ≡ lastDigits j n
+pub digits-first : (page : List ℕ) (n : ℕ) → length page ≡ 20 → digits (suc n) n (drop 20 page) ≡ decimal n
 unfolding decimal
-by-fuel f n j e d = rw e (d ∙ append-nil (lastDigits j n))
+digits-first page n l = let k : length page ≤ 20 = omega arith in rw (drop-of-length-le page k)
 
--- how many digits a number has, by where it lies
-module _ (n : ℕ) where
-  pub place-one : n < 10 → (decimal n ≡ lastDigits 1 n) × (1 ≤ 5)
-  place-one l = (by-fuel (suc n) n 1 refl (last-digit n n [] l), omega arith)
+-- there is room for a digit while one is left
+module _ (start n : ℕ) where
+  two-left : 10 ≤ n → n < 10 ^ start → 2 ≤ start
+  two-left h k = room start k
+    where
+      room : (s : ℕ) → n < 10 ^ s → 2 ≤ s
+      room zero l = absurd (omega arith)
+      room (suc zero) l = absurd (omega arith)
+      room (suc (suc s)) l = omega arith
 
-  pub place-two : 10 ≤ n → n < 100 → (decimal n ≡ lastDigits 2 n) × (2 ≤ 5)
-  place-two h l = (by-fuel (suc (suc (n - 1))) n 2 (omega arith) (two-digits (n - 1) n [] h l), omega arith)
+  pub room-left : 10 ≤ n → n < 10 ^ start → 0 < start - 1
+  room-left h k = omega (arith, two-left h k)
 
-  pub place-three : 100 ≤ n → n < 1000 → (decimal n ≡ lastDigits 3 n) × (3 ≤ 5)
-  place-three h l = (by-fuel (suc (suc (suc (n - 2)))) n 3 (omega arith) (three-digits (n - 2) n [] h l), omega arith)
+  pub tenth-fits : 10 ≤ n → n < 10 ^ start → n / 10 < 10 ^ (start - 1)
+  tenth-fits h k =
+      let e : start ≡ suc (start - 1) = omega (arith, two-left h k) in
+      let l : n < 10 ^ suc (start - 1) = rw e at k in
+      omega (arith, l)
 
-  pub place-four : 1000 ≤ n → n < 10000 → (decimal n ≡ lastDigits 4 n) × (4 ≤ 5)
-  place-four h l = (by-fuel (suc (suc (suc (suc (n - 3))))) n 4 (omega arith) (four-digits (n - 3) n [] h l), omega arith)
+-- the page from where the digits start to its end
+pub page-end : (page w : List ℕ) (start : ℕ) → length page ≡ 20 → drop start page ≡ w → take (20 - start) (drop start page) ≡ w
+page-end page w start l e = take-all (20 - start) (drop start page) (omega (arith, length-drop start page)) ∙ e
 
-  pub place-five : 10000 ≤ n → n < 100000 → (decimal n ≡ lastDigits 5 n) × (5 ≤ 5)
-  place-five h l = (by-fuel (suc (suc (suc (suc (suc (n - 4)))))) n 5 (omega arith) (five-digits (n - 4) n [] h l), omega arith)
+-- a number below 10 ^ (k + 1) has k + 1 digits at most
+digits-short : (f k n : ℕ) (t : List ℕ) → n < 10 ^ suc k → length (digits f n t) ≤ suc k + length t
+unfolding digits
+digits-short zero k n t h = omega arith
+digits-short (suc f) k n t h = go (decLt n 10) k h (λ i. digits-short f i (n / 10) ((48 + n % 10) ∷ t))
+  where
+    go : Dec (n < 10) → (m : ℕ) → n < 10 ^ suc m
+        → ((i : ℕ) → n / 10 < 10 ^ suc i → length (digits f (n / 10) ((48 + n % 10) ∷ t)) ≤ suc i + length ((48 + n % 10) ∷ t))
+        → length (digits (suc f) n t) ≤ suc m + length t
+    go (yes l) m g rest = rw (lt-ltb n 10 l) (omega arith)
+    go (no l) zero g rest = absurd (omega arith)
+    go (no l) (suc i) g rest = rw (le-ltb n 10 (omega arith)) (omega (arith, rest i (omega arith)))
 
--- a byte put behind some others may be put before them
-set-first : (l vs : List ℕ) (i j a : ℕ) → i + length vs ≤ j → set (sets l i vs) j a ≡ sets (set l j a) i vs
-set-first l [] i j a h = refl
-set-first l (v ∷ vs) i j a h =
-    let e : set (set l i v) j a ≡ set (set l j a) i v = set-comm l i j v a (omega arith) in
-    set-first (set l i v) vs (suc i) j a (omega arith) ∙ rw e
-
-last-first : (o : List ℕ) (at k n : ℕ) → sets (set o (at + k) (48 + n % 10)) at (lastDigits k (n / 10)) ≡ sets o at (lastDigits (suc k) n)
-unfolding lastDigits
-last-first o at k n =
-    let front : List ℕ = lastDigits k (n / 10) in
-    let l : length (lastDigits k (n / 10)) ≡ k = length-last k (n / 10) in
-    sym (set-first o front at (at + k) (48 + n % 10) (omega arith)) ∙ sym (sets-append o at front ((48 + n % 10) ∷ []) ∙ rw l)
-
--- the digits put from the last to the first: what is left to put, put, gives the whole
-module _ (o w : List ℕ) (at k n : ℕ) where
-  pub digit-more : sets o at (lastDigits k n) ≡ w → 0 < k → sets (set o (at + (k - 1)) (48 + n % 10)) at (lastDigits (k - 1) (n / 10)) ≡ w
-  digit-more inv h =
-      let e : k ≡ suc (k - 1) = omega arith in
-      last-first o at (k - 1) n ∙ (rw e at inv)
-
-  pub digit-done : sets o at (lastDigits k n) ≡ w → k ≤ 0 → o ≡ w
-  unfolding lastDigits
-  digit-done inv h =
-      let e : k ≡ 0 = omega arith in
-      rw e at inv
-
--- the number put, and where it ends
-module _ (o x : List ℕ) (at n r : ℕ) where
-  pub decimal-put : decimal n ≡ lastDigits r n → r ≤ 5 → x ≡ sets o at (lastDigits r n)
-      → (x ≡ sets o at (decimal n)) × (at + r ≡ at + length (decimal n)) × (at + r ≤ at + 5)
-  decimal-put e h ex = (rw e ex, rw (e, length-last), omega arith)
+pub decimal-short : (k n : ℕ) → n < 10 ^ suc k → length (decimal n) ≤ suc k
+unfolding decimal
+decimal-short k n h = omega (arith, digits-short (suc n) k n [] h)

@@ -1,35 +1,78 @@
--- A text put behind another, as the code comes by it. Assumes nothing.
-use Prim.Native.Nat.{ℕ, _+_}
-use mathlib.Core.Path.{_≡_, refl, sym, _∙_}
+-- Texts put at a place, and one behind another, as the code comes by them. Assumes nothing.
+use Prim.Native.Nat.{ℕ, suc, _+_, _-_, _<_, _≤_, min}
+use mathlib.Core.Path.{_≡_, refl, sym, ap, _∙_}
 use mathlib.Core.List.{List, [], _∷_, _++_}
 use native.Mathlib.Omega.{arith}
-use lib.ListN.{length, set, length-append}
-use lib.Seq.{sets}
-use Rattle.floor.specs.Quoted.{plain}
-use Rattle.floor.specs.Texts.{decimal, line, refusedWord}
+use native.Mathlib.Decide.{decLt}
+use lib.ListN.{length, getD, set, drop, drop-of-length-le, length-append}
+use lib.Seq.{sets, length-sets, set-out, drop-cons}
+use Rattle.floor.specs.Texts.{line, refusedWord}
 use Rattle.fields.proofs.Puts.{sets-append}
+use Rattle.letters.specs.Puts.{behind, Puts}
+
+-- nothing is put behind the end
+sets-out : (l vs : List ℕ) (i : ℕ) → length l ≤ i → sets l i vs ≡ l
+sets-out l [] i h = refl
+sets-out l (v ∷ vs) i h = rw (set-out l i v h) (sets-out l vs (suc i) (omega arith))
+
+-- a text that there is room for, put at the front of a page
+pub front-put : (o t x : List ℕ) (r : ℕ) → Puts o 0 t x r → length o ≡ 8192 → length t ≤ 8192 → (r ≡ length t) × (x ≡ sets o 0 t) × (r ≤ 8192)
+unfolding behind
+front-put o t x r p l h = (omega (arith, p .place), p .buffer, omega (arith, p .place))
 
 -- a text put behind another: the two, put as one
-pub both-put : (o x y vs ws : List ℕ) (at m : ℕ) → x ≡ sets o at vs → m ≡ at + length vs → y ≡ sets x m ws → y ≡ sets o at (vs ++ ws)
-both-put o x y vs ws at m ex em ey = ey ∙ (rw (ex, em) (sym (sets-append o at vs ws)))
+pub both-puts : (o x y vs ws : List ℕ) (at m r : ℕ) → Puts o at vs x m → Puts x m ws y r → Puts o at (vs ++ ws) y r
+unfolding behind
+both-puts o x y vs ws at m r p q =
+    let l : length x ≡ length o = ap (λ (z : List ℕ). length z) (p .buffer) ∙ length-sets o at vs in
+    record { buffer = q .buffer ∙ seam (decLt (length o) (at + length vs)) ∙ sym (sets-append o at vs ws); place = omega (arith, p .place, q .place, length-append vs ws) }
+  where
+    seam : Dec (length o < at + length vs) → sets x m ws ≡ sets (sets o at vs) (at + length vs) ws
+    seam (yes h) =
+        let l : length (sets o at vs) ≡ length o = length-sets o at vs in
+        rw (p .buffer) (sets-out (sets o at vs) ws m (omega (arith, p .place)) ∙ sym (sets-out (sets o at vs) ws (at + length vs) (omega arith)))
+    seam (no h) =
+        let e : m ≡ at + length vs = omega (arith, p .place) in
+        rw (p .buffer, e)
 
-pub both-end : (vs ws : List ℕ) (at m r : ℕ) → m ≡ at + length vs → r ≡ m + length ws → r ≡ at + length (vs ++ ws)
-both-end vs ws at m r em er = omega (arith, length-append vs ws)
+-- the bytes of a word put one by one: what is left to put, put, gives the whole
+module _ (o s : List ℕ) (at i : ℕ) where
+  pub byte-more : (w : List ℕ) (many room : ℕ) → sets o (at + i) (drop i s) ≡ w → i < many → many ≡ min (length s) room → sets (set o (at + i) (getD s i 0)) (at + (i + 1)) (drop (i + 1) s) ≡ w
+  byte-more w many room inv h em =
+      let e₁ : i + 1 ≡ suc i = omega arith in
+      let e₂ : at + (i + 1) ≡ suc (at + i) = omega arith in
+      rw (e₂, e₁) (rw (drop-cons s i 0 (omega arith)) at inv)
 
--- a number and a byte behind it
-module _ (n at byte : ℕ) where
-  pub then-put : (o x : List ℕ) (m : ℕ) → x ≡ sets o at (decimal n) → m ≡ at + length (decimal n) → set x m byte ≡ sets o at (decimal n ++ (byte ∷ []))
-  then-put o x m ex em = both-put o x (set x m byte) (decimal n) (byte ∷ []) at m ex em refl
+  -- a loop that has put as many as there is room for has put the word
+  pub word-put : (o₀ : List ℕ) (many : ℕ) → many ≡ min (length s) (length o₀ - at) → length o ≡ length o₀ → sets o (at + i) (drop i s) ≡ sets o₀ at s
+      → i ≤ many → many ≤ i → Puts o₀ at s o (at + i)
+  unfolding behind
+  word-put o₀ many em l inv h k = record { buffer = go (decLt i (length s)); place = omega arith }
+    where
+      go : Dec (i < length s) → o ≡ sets o₀ at s
+      go (yes n) = sym (sets-out o (drop i s) (at + i) (omega arith)) ∙ inv
+      go (no n) = let k : length s ≤ i = omega arith in rw (drop-of-length-le s k) at inv
 
-  pub then-end : (m : ℕ) → m ≡ at + length (decimal n) → m + 1 ≡ at + length (decimal n ++ (byte ∷ []))
-  then-end m em = both-end (decimal n) (byte ∷ []) at m (m + 1) em refl
+-- nothing, put
+pub none-put : (o : List ℕ) (at : ℕ) → Puts o at [] o at
+unfolding behind
+none-put o at = record { buffer = refl; place = omega arith }
+
+-- one byte, put or not
+module _ (o : List ℕ) (at b : ℕ) where
+  pub byte-put : at < length o → Puts o at (b ∷ []) (set o at b) (at + 1)
+  unfolding behind
+  byte-put h = record { buffer = refl; place = omega arith }
+
+  pub byte-out : length o ≤ at → Puts o at (b ∷ []) o at
+  unfolding behind
+  byte-out h = record { buffer = sym (set-out o at b h); place = omega arith }
+
+-- a text under another name
+pub named : (o t w x : List ℕ) (at r : ℕ) → t ≡ w → Puts o at t x r → Puts o at w x r
+named o t w x at r e p = rw e at p
 
 -- a refusal: the word, then its number on the same line
-module _ (at k n m : ℕ) (en : n ≡ k) (em : m ≡ at + 8) where
-  pub refusal-put : (o x y : List ℕ) → x ≡ sets o at refusedWord → y ≡ sets x m (line (n ∷ [])) → y ≡ sets o at (refusedWord ++ line (k ∷ []))
-  unfolding refusedWord plain
-  refusal-put o x y ex ey = both-put o x y refusedWord (line (k ∷ [])) at m ex em (rw en at ey)
-
-  pub refusal-end : (r : ℕ) → r ≡ m + length (line (n ∷ [])) → r ≡ at + length (refusedWord ++ line (k ∷ []))
-  unfolding refusedWord plain
-  refusal-end r er = both-end refusedWord (line (k ∷ [])) at m r em (rw en at er)
+pub refusal-put : (o x y : List ℕ) (at m r n k : ℕ) → Puts o at refusedWord x m → n ≡ k → Puts x m (line (n ∷ [])) y r
+    → Puts o at (refusedWord ++ line (k ∷ [])) y r
+refusal-put o x y at m r n k p e q = both-puts o x y refusedWord (line (k ∷ [])) at m r p (rw e at q)

@@ -1,4 +1,4 @@
-use Rattle.letters.proofs.Rows.{refusal-put, refusal-end}
+use Rattle.letters.proofs.Rows.{refusal-put}
 use borrow.Author.Needs.{needs}
 use Rattle.letters.proofs.line.put_refusal.Statement.{statement}
 use Rattle.letters.proofs.line.put_refusal.Tie as tie
@@ -16,7 +16,7 @@ same-length : tie.Need-same-length
 same-length c = search needs
 
 returns : tie.Need-returns
-returns c = (search (refusal-put, needs), search (refusal-end, needs), search needs)
+returns c = search (refusal-put, needs)
 
 pub put-refusal-spec : {M : Type 1} → statement M
 put-refusal-spec =

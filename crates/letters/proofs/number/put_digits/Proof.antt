@@ -1,49 +1,57 @@
-use Prim.Native.Nat.{_≤_}
+use Prim.Native.Nat.{suc, _^_, _≤_, _<_}
 use mathlib.Core.Path.{_≡_}
-use lib.ListN.{length, length-set}
-use lib.Seq.{sets}
 use native.Mathlib.Omega.{arith}
-use Rattle.letters.specs.Digits.{lastDigits}
-use Rattle.letters.proofs.Numbers.{digit-more, digit-done}
+use lib.ListN.{length, length-set, drop}
+use Rattle.floor.specs.Texts.{digits, decimal}
+use Rattle.letters.proofs.Numbers.{digits-first, digit-more, digit-last, room-left, tenth-fits}
 use borrow.Author.Needs.{needs}
 use Rattle.letters.proofs.number.put_digits.Statement.{statement}
 use Rattle.letters.proofs.number.put_digits.Tie as tie
 
 abbrev Inv-loop : tie.InvT-loop
-Inv-loop out₀ at n count k₀ rest₀ out k rest = (k ≤ count) × (length out ≡ length out₀) × (sets out at (lastDigits k rest) ≡ sets out₀ at (lastDigits count n))
+Inv-loop page₀ n start₀ rest₀ page start rest = (length page ≡ 20) × (0 < start) × (start ≤ 20) × (rest < 10 ^ start) × (digits (suc rest) rest (drop start page) ≡ decimal n)
 
 abbrev μ-loop : tie.MeasureT-loop
-μ-loop out₀ at n count k₀ rest₀ out k rest = k
+μ-loop page₀ n start₀ rest₀ page start rest = rest
 
 loop-holds : tie.Need-loop-holds Inv-loop μ-loop
-loop-holds c = search needs
+loop-holds c = (search needs, search needs, search needs, search needs, search (digits-first, needs))
 
-sub-k : tie.Need-sub-k Inv-loop μ-loop
-sub-k c = search needs
+sub-start : tie.Need-sub-start Inv-loop μ-loop
+sub-start c = search needs
 
-add-out : tie.Need-add-out Inv-loop μ-loop
-add-out c = search needs
+add-page : tie.Need-add-page Inv-loop μ-loop
+add-page c = search needs
 
-cast-out : tie.Need-cast-out Inv-loop μ-loop
-cast-out c = search needs
+cast-page : tie.Need-cast-page Inv-loop μ-loop
+cast-page c = search needs
 
-add-out-2 : tie.Need-add-out-2 Inv-loop μ-loop
-add-out-2 c = search needs
-
-slice-write-out : tie.Need-slice-write-out Inv-loop μ-loop
-slice-write-out c = search needs
+slice-write-page : tie.Need-slice-write-page Inv-loop μ-loop
+slice-write-page c = search needs
 
 loop-less : tie.Need-loop-less Inv-loop μ-loop
 loop-less c = search needs
 
 loop-again : tie.Need-loop-again Inv-loop μ-loop
-loop-again c = (search needs, simp length-set (omega arith), search (digit-more, needs))
+loop-again c = (simp length-set (search needs), search (room-left, needs), search needs, search (tenth-fits, needs), search (digit-more, needs))
+
+sub-start-2 : tie.Need-sub-start-2 Inv-loop μ-loop
+sub-start-2 c = search needs
+
+add-page-2 : tie.Need-add-page-2 Inv-loop μ-loop
+add-page-2 c = search needs
+
+cast-page-2 : tie.Need-cast-page-2 Inv-loop μ-loop
+cast-page-2 c = search needs
+
+slice-write-page-2 : tie.Need-slice-write-page-2 Inv-loop μ-loop
+slice-write-page-2 c = search needs
 
 same-length : tie.Need-same-length Inv-loop μ-loop
-same-length c = search needs
+same-length c = simp length-set (omega arith)
 
 returns : tie.Need-returns Inv-loop μ-loop
-returns c = search (digit-done, needs)
+returns c = (search (digit-last, needs), search needs)
 
 pub put-digits-spec : {M : Type 1} → statement M
 put-digits-spec =
@@ -52,12 +60,15 @@ put-digits-spec =
     Inv-loop
     μ-loop
     loop-holds
-    sub-k
-    add-out
-    cast-out
-    add-out-2
-    slice-write-out
+    sub-start
+    add-page
+    cast-page
+    slice-write-page
     loop-less
     loop-again
+    sub-start-2
+    add-page-2
+    cast-page-2
+    slice-write-page-2
     same-length
     returns)
