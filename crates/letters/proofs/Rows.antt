@@ -15,10 +15,14 @@ sets-out : (l vs : List ℕ) (i : ℕ) → length l ≤ i → sets l i vs ≡ l
 sets-out l [] i h = refl
 sets-out l (v ∷ vs) i h = rw (set-out l i v h) (sets-out l vs (suc i) (omega arith))
 
--- a text that there is room for, put at the front of a page
-pub front-put : (o t x : List ℕ) (r : ℕ) → Puts o 0 t x r → length o ≡ 8192 → length t ≤ 8192 → (r ≡ length t) × (x ≡ sets o 0 t) × (r ≤ 8192)
+-- a text that there is room for, put at the front
+pub front-whole : (o t x : List ℕ) (r : ℕ) → Puts o 0 t x r → length t ≤ length o → (r ≡ length t) × (x ≡ sets o 0 t)
 unfolding behind
-front-put o t x r p l h = (omega (arith, p .place), p .buffer, omega (arith, p .place))
+front-whole o t x r p h = (omega (arith, p .place), p .buffer)
+
+-- the same on a page of 8,192 bytes
+pub front-put : (o t x : List ℕ) (r : ℕ) → Puts o 0 t x r → length o ≡ 8192 → length t ≤ 8192 → (r ≡ length t) × (x ≡ sets o 0 t) × (r ≤ 8192)
+front-put o t x r p l h = let (e, q) = front-whole o t x r p (omega arith) in (e, q, omega arith)
 
 -- a text put behind another: the two, put as one
 pub both-puts : (o x y vs ws : List ℕ) (at m r : ℕ) → Puts o at vs x m → Puts x m ws y r → Puts o at (vs ++ ws) y r

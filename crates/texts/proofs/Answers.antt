@@ -2,20 +2,36 @@
 use Prim.Native.Nat.{ℕ, _≤_, _<_}
 use mathlib.Core.Path.{_≡_, sym, ap, _∙_}
 use mathlib.Core.Bool.{true, false}
-use mathlib.Core.List.{List}
+use mathlib.Core.List.{List, [], _∷_, _++_}
+use native.Mathlib.Omega.{arith}
 use borrow.Author.Tests.{le-leb, lt-leb}
 use lib.Dec.{leb}
 use lib.ListN.{length}
 use lib.Seq.{sets}
 use Rattle.floor.specs.Plans.{refused, held}
 use Rattle.floor.specs.Calls.{load}
-use Rattle.floor.specs.Texts.{tooLong, planText, answerText, listing}
+use Rattle.floor.specs.Quoted.{plain}
+use Rattle.floor.specs.Texts.{line, refusedWord, tooLong, planText, answerText, listing}
 use Rattle.stars.specs.Held.{jobOf}
 use Rattle.drawing.specs.declared.Answer.the-variants.{Drawn, Refused}
 use Rattle.drawing.specs.Rects.{planIn}
 use Rattle.drawing.specs.Drawn.{said}
 use Rattle.board.specs.declared.Planned.{Planned}
 use Rattle.board.specs.Boards.{Plans}
+use Rattle.letters.specs.Puts.{Puts}
+use Rattle.letters.proofs.Rows.{front-put}
+use Rattle.texts.proofs.Rows.{one-short}
+
+-- a refusal, and what is said of input that is too long, at the front of a page
+module _ (o x : List ℕ) (r : ℕ) (l : length o ≡ 8192) where
+  pub refusal-front : (k : ℕ) → k < 256 → Puts o 0 (refusedWord ++ line (k ∷ [])) x r
+      → (r ≡ length (answerText (refused k))) × (x ≡ sets o 0 (answerText (refused k))) × (r ≤ 8192)
+  unfolding answerText refusedWord plain
+  refusal-front k h p = front-put o (refusedWord ++ line (k ∷ [])) x r p l (omega (arith, one-short k (omega arith)))
+
+  pub too-long-front : Puts o 0 tooLong x r → (r ≡ length tooLong) × (x ≡ sets o 0 tooLong) × (r ≤ 8192)
+  unfolding tooLong plain
+  too-long-front p = front-put o tooLong x r p l (omega arith)
 
 -- what is printed for some input
 module _ (bs : List ℕ) where

@@ -1,21 +1,35 @@
 -- Numbers on one line, as the code comes by them. Assumes nothing.
-use Prim.Native.Nat.{ℕ, _+_}
+use Prim.Native.Nat.{ℕ, _+_, _<_, _≤_}
 use mathlib.Core.Path.{_≡_}
 use mathlib.Core.List.{List, [], _∷_, _++_, append-assoc}
-use lib.ListN.{length}
-use lib.Seq.{sets}
+use native.Mathlib.Omega.{arith}
+use lib.ListN.{length, length-append}
 use Rattle.floor.specs.Texts.{decimal, line}
-use Rattle.letters.proofs.Rows.{both-put, both-end}
+use Rattle.letters.specs.Puts.{Puts}
+use Rattle.letters.proofs.Numbers.{decimal-short}
+use Rattle.letters.proofs.Rows.{both-puts}
 
 -- a number with others behind it
 line-more : (n m : ℕ) (ns : List ℕ) → (decimal n ++ (32 ∷ [])) ++ line (m ∷ ns) ≡ line (n ∷ m ∷ ns)
 unfolding line
 line-more n m ns = append-assoc (decimal n) (32 ∷ []) (line (m ∷ ns))
 
-module _ (n m at k : ℕ) (ns : List ℕ) where
-  pub more-put : (o x y : List ℕ) → x ≡ sets o at (decimal n ++ (32 ∷ [])) → k ≡ at + length (decimal n ++ (32 ∷ [])) → y ≡ sets x k (line (m ∷ ns))
-      → y ≡ sets o at (line (n ∷ m ∷ ns))
-  more-put o x y ex ek ey = rw line-more at (both-put o x y (decimal n ++ (32 ∷ [])) (line (m ∷ ns)) at k ex ek ey)
+pub more-puts : (n m : ℕ) (ns o x y : List ℕ) (at k r : ℕ) → Puts o at (decimal n ++ (32 ∷ [])) x k → Puts x k (line (m ∷ ns)) y r
+    → Puts o at (line (n ∷ m ∷ ns)) y r
+more-puts n m ns o x y at k r p q = rw line-more at (both-puts o x y (decimal n ++ (32 ∷ [])) (line (m ∷ ns)) at k r p q)
 
-  pub more-end : (r : ℕ) → k ≡ at + length (decimal n ++ (32 ∷ [])) → r ≡ k + length (line (m ∷ ns)) → r ≡ at + length (line (n ∷ m ∷ ns))
-  more-end r ek er = rw line-more at (both-end (decimal n ++ (32 ∷ [])) (line (m ∷ ns)) at k r ek er)
+-- how long a line of numbers below 100,000 is at most
+pub one-short : (n : ℕ) → n < 100000 → length (line (n ∷ [])) ≤ 6
+unfolding line
+one-short n h = omega (arith, length-append (decimal n) (10 ∷ []), decimal-short 4 n h)
+
+more-short : (n m k : ℕ) (ns : List ℕ) → n < 100000 → length (line (m ∷ ns)) ≤ k → length (line (n ∷ m ∷ ns)) ≤ 6 + k
+unfolding line
+more-short n m k ns h l = omega (arith, length-append (decimal n) (32 ∷ line (m ∷ ns)), decimal-short 4 n h)
+
+pub two-short : (a b : ℕ) → a < 100000 → b < 100000 → length (line (a ∷ b ∷ [])) ≤ 12
+two-short a b ha hb = more-short a b 6 [] ha (one-short b hb)
+
+pub five-short : (v a b c d : ℕ) → v < 100000 → a < 100000 → b < 100000 → c < 100000 → d < 100000 → length (line (v ∷ a ∷ b ∷ c ∷ d ∷ [])) ≤ 30
+five-short v a b c d hv ha hb hc hd =
+    more-short v a 24 (b ∷ c ∷ d ∷ []) hv (more-short a b 18 (c ∷ d ∷ []) ha (more-short b c 12 (d ∷ []) hb (two-short c d hc hd)))

@@ -1,19 +1,18 @@
-// The rectangles of a plan, a line each, put at a place of a lent buffer.
-ghost use mathlib.Core.Path.{_≡_};
-ghost use Prim.Native.Nat.{_+_, _≤_, _<_};
+// The rectangles of a plan, a line each, put at a place of a lent buffer, as far as it reaches.
+ghost use Prim.Native.Nat.{_≤_, _<_};
 ghost use lib.ListN.{length};
-ghost use lib.Seq.{sets};
 ghost use Rattle.floor.specs.Plans.{rectOf, rectBytes};
 ghost use Rattle.floor.specs.Texts.{line, rectLines};
 ghost use Rattle.drawing.specs.Rects.{planIn};
+ghost use Rattle.letters.specs.Puts.{Puts};
 use crate::line;
 use drawing::Plan;
 
 // The line of one rectangle.
 fn put_rect(plan: Plan, v: usize, out: &mut [u8], at: usize) -> usize
-    requires { ⌜ (v < 100000) × (at + 30 ≤ length (now out)) ⌝ }
-    ensures { λ r. ⌜ (now (out .exit) ≡ sets (now (out .entry)) at (line (rectBytes (rectOf (planIn plan) v))))
-        × (r ≡ at + length (line (rectBytes (rectOf (planIn plan) v)))) × (r ≤ at + 30) ⌝ }
+    requires { ⌜ v < 100000 ⌝ }
+    ensures { λ r. ⌜ Puts (now (out .entry)) at (line (rectBytes (rectOf (planIn plan) v))) (now (out .exit)) r
+        × (length (line (rectBytes (rectOf (planIn plan) v))) ≤ 30) ⌝ }
 {
     let r = drawing::rectangle(plan, v);
     let x1 = fields::number(r.x1);
@@ -25,9 +24,8 @@ fn put_rect(plan: Plan, v: usize, out: &mut [u8], at: usize) -> usize
 
 // The lines of all rectangles, of which there are at most 259.
 pub fn put_rects(plan: Plan, out: &mut [u8], at: usize) -> usize
-    requires { ⌜ at + 7770 ≤ length (now out) ⌝ }
-    ensures { λ r. ⌜ (now (out .exit) ≡ sets (now (out .entry)) at (rectLines (planIn plan .rects)))
-        × (r ≡ at + length (rectLines (planIn plan .rects))) × (r ≤ at + 7770) ⌝ }
+    ensures { λ r. ⌜ Puts (now (out .entry)) at (rectLines (planIn plan .rects)) (now (out .exit)) r
+        × (length (rectLines (planIn plan .rects)) ≤ 7770) ⌝ }
 {
     let many = fields::wide(plan.rooms) + 4;
     let mut next = at;

@@ -1,4 +1,4 @@
-use Rattle.texts.proofs.Rows.{more-put, more-end}
+use Rattle.texts.proofs.Rows.{more-puts}
 use borrow.Author.Needs.{needs}
 use Rattle.texts.proofs.line.put_two.Statement.{statement}
 use Rattle.texts.proofs.line.put_two.Tie as tie
@@ -13,7 +13,7 @@ same-length : tie.Need-same-length
 same-length c = search needs
 
 returns : tie.Need-returns
-returns c = (search (more-put, needs), search (more-end, needs), search needs)
+returns c = search (more-puts, needs)
 
 pub put-two-spec : {M : Type 1} → statement M
 put-two-spec = tie.close (tie.spec put-then-requires put-one-requires same-length returns)

@@ -1,5 +1,4 @@
-use native.Mathlib.Omega.{arith}
-use Rattle.texts.proofs.Plans.{vertex-small, rect-put, rect-end}
+use Rattle.texts.proofs.Plans.{rect-put, rect-short}
 use borrow.Author.Needs.{needs}
 use Rattle.texts.proofs.plan.put_rect.Statement.{statement}
 use Rattle.texts.proofs.plan.put_rect.Tie as tie
@@ -20,14 +19,13 @@ number-requires-4 : tie.Need-number-requires-4
 number-requires-4 c κs = search needs
 
 put-five-requires : tie.Need-put-five-requires
-put-five-requires c κs = let asked = c .before .before .before .before .before in
-    (vertex-small _ _ _ (asked .rectangle .ensures) (omega arith), search needs, search needs, search needs, search needs, search needs)
+put-five-requires c κs = search needs
 
 same-length : tie.Need-same-length
 same-length c = search needs
 
 returns : tie.Need-returns
-returns c = (search (rect-put, needs), search (rect-end, needs), search needs)
+returns c = (search (rect-put, needs), search (rect-short, needs))
 
 pub put-rect-spec : {M : Type 1} → statement M
 put-rect-spec =
