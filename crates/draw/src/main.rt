@@ -1,4 +1,6 @@
-// Reads a job from standard input and draws its plan as a picture (SVG), or prints the number of the refusal, or that the input is too long.
+// Reads a job from standard input and draws its plan as a picture (SVG); where there is no plan, prints what the listing says.
+ghost use mathlib.Core.Path.{_≡_};
+ghost use lib.ListN.{length};
 use drawing::Plan;
 use rooms::Layer;
 
@@ -39,17 +41,24 @@ fn picture(plan: Plan) {
     pen::word(b"</svg>\n");
 }
 
-// The number of a refusal, on a line.
-fn refused(k: u8) {
-    pen::word(b"refused ");
-    pen::number(fields::wide(k));
-    pen::word(b"\n");
+// A buffer for what is printed.
+fn page() -> [u8; 8192]
+    ensures { λ r. ⌜ length r ≡ 8192 ⌝ }
+{
+    [0; 8192]
+}
+
+// What the listing says.
+fn say(input: &[u8]) {
+    let mut out = page();
+    let length = texts::list(input, &mut out);
+    io::write_all(1, &out[..length]);
 }
 
 // What is written for some input.
 fn answer(input: &[u8]) {
     if 8192 < input.len() {
-        pen::word(b"input too long\n");
+        say(input);
         return;
     }
     let planned = board::plan_job(input);
@@ -58,7 +67,7 @@ fn answer(input: &[u8]) {
     let plan = board.plan;
     match answer {
         drawing::Answer::Drawn => picture(plan),
-        drawing::Answer::Refused(k) => refused(k),
+        drawing::Answer::Refused(_) => say(input),
     }
 }
 

@@ -3,19 +3,31 @@
 ghost use mathlib.Core.Path.{_≡_};
 ghost use lib.ListN.{length};
 
-// A buffer for the turned job.
-fn page() -> [u8; 1024]
-    ensures { λ r. ⌜ length r ≡ 1024 ⌝ }
+// A buffer for what is printed.
+fn page() -> [u8; 8192]
+    ensures { λ r. ⌜ length r ≡ 8192 ⌝ }
 {
-    [0; 1024]
+    [0; 8192]
+}
+
+// The number of a refusal.
+fn refuse(k: u8) {
+    let mut out = page();
+    let length = texts::list_refusal(k, &mut out);
+    io::write_all(1, &out[..length]);
+}
+
+// That the input is too long.
+fn too_long() {
+    let mut out = page();
+    let length = texts::list_too_long(&mut out);
+    io::write_all(1, &out[..length]);
 }
 
 // The number of a refusal, or the job's bytes.
 fn show(answer: usize, out: &[u8]) {
     if answer < 256 {
-        io::write_all(1, b"refused ");
-        io::print_decimal(1, answer as u64);
-        io::write_all(1, b"\n");
+        refuse(answer as u8);
         return;
     }
     if answer - 256 <= out.len() {
@@ -27,11 +39,11 @@ fn main() {
     let mut input = [0u8; 8197];
     let n = io::read_full(0, &mut input);
     if n < 4 {
-        io::write_all(1, b"refused 1\n");
+        refuse(1);
         return;
     }
     if 8196 < n {
-        io::write_all(1, b"input too long\n");
+        too_long();
         return;
     }
     let u = 256 * fields::wide(input[0]) + fields::wide(input[1]);
