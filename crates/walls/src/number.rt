@@ -229,6 +229,24 @@ fn climb_both<'a>(
     crate::steps::both_of(once, round)
 }
 
+// A good order in which to visit the rules of a direction; nothing is promised of it but that it stays within its buffer.
+fn order_for<'a>(
+    way: Direction,
+    ends: &'a [u16],
+    nbr: &'a [u16],
+    kind: &'a [u8],
+    count: usize,
+    owner: &mut [u16],
+    visits: &mut [u16],
+) -> orders::Span
+    ensures { λ r. ⌜ (r .again ≤ r .many) × (r .many ≤ length (now (visits .entry))) ⌝ }
+{
+    let far = crate::rules::far_of(way);
+    let near = crate::rules::near_of(way);
+    let cross = crate::rules::cross_of(way);
+    orders::order_of(far, near, cross, ends, nbr, kind, count, owner, visits)
+}
+
 // The visits of a good order.
 fn climb_all<'a>(
     f: &mut [u16],
@@ -243,22 +261,9 @@ fn climb_all<'a>(
     ensures { λ r. ⌜ Climbs r (rules (axisOf way) (starsIn count 0 (now (ends .entry)) (now (nbr .entry)) (now (kind .entry))))
         (now (f .entry)) (now (f .exit)) top ⌝ }
 {
-    let far = crate::rules::far_of(way);
-    let near = crate::rules::near_of(way);
-    let cross = crate::rules::cross_of(way);
     let mut owner = [0u16; 360];
     let mut visits = [0u16; 1440];
-    let span = orders::order_of(
-        far,
-        near,
-        cross,
-        ends,
-        nbr,
-        kind,
-        count,
-        &mut owner,
-        &mut visits,
-    );
+    let span = order_for(way, ends, nbr, kind, count, &mut owner, &mut visits);
     let many = span.many;
     let again = span.again;
     climb_both(
