@@ -1,7 +1,8 @@
-//! Puts many jobs and calls to the reference and to the built programs `calls` and `listing`, and compares every line.
+//! Puts many jobs and calls to the reference and to the built programs `calls`, `listing` and `draw`, and compares every line.
 
 mod alone;
 mod damage;
+mod picture;
 mod planner;
 mod programs;
 mod proofread;
@@ -22,7 +23,8 @@ use std::time::Instant;
 use streams::{make_stream, Budget};
 use table::Table;
 
-const USAGE: &str = "differ [--short | --long] [--seed N] [--jobs N] [--calls N] [--listings N] \
+const USAGE: &str =
+    "differ [--short | --long] [--seed N] [--jobs N] [--calls N] [--listings N] [--pictures N] \
     [--runner PATH] [--slip NAME]";
 
 struct Options {
@@ -30,6 +32,7 @@ struct Options {
     jobs: usize,
     calls: usize,
     listings: usize,
+    pictures: usize,
     under_test: UnderTest,
 }
 
@@ -40,15 +43,17 @@ fn main() -> ExitCode {
     };
     let begun = Instant::now();
     println!(
-        "seed {}, {} jobs, {} other calls, {} listings",
-        options.seed, options.jobs, options.calls, options.listings
+        "seed {}, {} jobs, {} other calls, {} listings, {} pictures",
+        options.seed, options.jobs, options.calls, options.listings, options.pictures
     );
     let mut table = Table::default();
-    let same = compare_calls(&options, &mut table) && compare_listings(&options, &mut table);
+    let same = compare_calls(&options, &mut table)
+        && compare_listings(&options, &mut table)
+        && compare_pictures(&options, &mut table);
     table.print();
     println!(
         "{} cases in {:.1} seconds",
-        table.cases() + table.listings.values().sum::<u64>(),
+        table.cases() + table.listings.values().sum::<u64>() + table.pictures.values().sum::<u64>(),
         begun.elapsed().as_secs_f64()
     );
     if same {
@@ -66,6 +71,7 @@ fn read_options() -> Option<Options> {
         jobs: 20_000,
         calls: 50_000,
         listings: 300,
+        pictures: 200,
         under_test: UnderTest::Runner("../bin/run".to_string()),
     };
     let mut words = std::env::args().skip(1);
@@ -73,12 +79,14 @@ fn read_options() -> Option<Options> {
         match word.as_str() {
             "--short" => {}
             "--long" => {
-                (options.jobs, options.calls, options.listings) = (400_000, 600_000, 3_000);
+                (options.jobs, options.calls) = (400_000, 600_000);
+                (options.listings, options.pictures) = (3_000, 2_000);
             }
             "--seed" => options.seed = words.next()?.parse().ok()?,
             "--jobs" => options.jobs = words.next()?.parse().ok()?,
             "--calls" => options.calls = words.next()?.parse().ok()?,
             "--listings" => options.listings = words.next()?.parse().ok()?,
+            "--pictures" => options.pictures = words.next()?.parse().ok()?,
             "--runner" => options.under_test = UnderTest::Runner(words.next()?),
             "--slip" => {
                 let name = words.next()?;
@@ -143,6 +151,24 @@ fn compare_listings(options: &Options, table: &mut Table) -> bool {
             println!("difference in a listing of {} bytes:", job.len());
             println!("  {}", hex(&job));
             println!("reference:\n{expected}program:\n{found}");
+            return false;
+        }
+    }
+    true
+}
+
+/// A picture shows what the listing says, rectangle by rectangle; where there is no plan, it is the listing.
+fn compare_pictures(options: &Options, table: &mut Table) -> bool {
+    let mut chance = Chance::new(options.seed ^ 0x6472_6177);
+    for round in 0..options.pictures {
+        let job = listing_job(&mut chance, round);
+        let expected = listing_text(&mut Board::empty(), &job);
+        table.count_picture(&expected);
+        let found = picture::listing_shown(&options.under_test.picture(&job));
+        if found.as_ref() != Ok(&expected) {
+            println!("difference in a picture of {} bytes:", job.len());
+            println!("  {}", hex(&job));
+            println!("reference:\n{expected}picture:\n{found:?}");
             return false;
         }
     }

@@ -29,6 +29,14 @@ impl UnderTest {
             UnderTest::Slipped(slip) => listing_text(&mut SlippedBoard::empty(*slip), job),
         }
     }
+
+    /// A planner with a slip draws nothing; its listing stands for the picture.
+    pub fn picture(&self, job: &[u8]) -> String {
+        match self {
+            UnderTest::Runner(path) => run(path, "draw", job),
+            UnderTest::Slipped(_) => self.listing(job),
+        }
+    }
 }
 
 /// What the program prints. A bad end or no end is made visible as a last line that no program prints.

@@ -12,6 +12,7 @@ pub struct Table {
     pub streams: u64,
     pub broken_streams: u64,
     pub listings: BTreeMap<String, u64>,
+    pub pictures: BTreeMap<String, u64>,
     pub turned_back: u64,
     pub plans_checked: u64,
 }
@@ -46,13 +47,11 @@ impl Table {
     }
 
     pub fn count_listing(&mut self, text: &str) {
-        let first = text.lines().next().unwrap_or("");
-        let name = if first.starts_with("sheet") {
-            "accepted"
-        } else {
-            first
-        };
-        *self.listings.entry(name.to_string()).or_default() += 1;
+        *self.listings.entry(first_words(text)).or_default() += 1;
+    }
+
+    pub fn count_picture(&mut self, text: &str) {
+        *self.pictures.entry(first_words(text)).or_default() += 1;
     }
 
     pub fn cases(&self) -> u64 {
@@ -109,12 +108,8 @@ impl Table {
             "{} streams, {} of them broken; {} plans checked cell by cell; {} turns made again at once",
             self.streams, self.broken_streams, self.plans_checked, self.turned_back
         );
-        let listings: Vec<String> = self
-            .listings
-            .iter()
-            .map(|(name, count)| format!("{name}: {count}"))
-            .collect();
-        println!("listings: {}", listings.join(", "));
+        println!("listings: {}", told(&self.listings));
+        println!("pictures: {}", told(&self.pictures));
         let never: Vec<String> = (1..=14u8)
             .filter(|&number| {
                 CALLS
@@ -130,6 +125,25 @@ impl Table {
             .collect();
         println!("never seen on a turn: {}", none_or(&turns));
     }
+}
+
+/// What a listing comes to: accepted, or its one line.
+fn first_words(text: &str) -> String {
+    let first = text.lines().next().unwrap_or("");
+    let name = if first.starts_with("sheet") {
+        "accepted"
+    } else {
+        first
+    };
+    name.to_string()
+}
+
+fn told(counts: &BTreeMap<String, u64>) -> String {
+    let words: Vec<String> = counts
+        .iter()
+        .map(|(name, count)| format!("{name}: {count}"))
+        .collect();
+    words.join(", ")
 }
 
 fn none_or(names: &[String]) -> String {

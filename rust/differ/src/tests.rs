@@ -1,6 +1,7 @@
 //! The comparison tried on itself: every known slip is found and shrunk, and the reference agrees with itself.
 
 use crate::damage::finished_floor;
+use crate::picture::listing_shown;
 use crate::programs::UnderTest;
 use crate::proofread::plan_fault;
 use crate::shrink::{both_texts, Shrinker};
@@ -9,6 +10,7 @@ use crate::streams::{make_stream, Budget};
 use crate::table::Table;
 use floors::Chance;
 use reference::Board;
+use std::ops::Range;
 
 /// The first stream in which the planner under test differs.
 fn first_difference(under_test: &UnderTest, seed: u64) -> Option<Vec<Vec<u8>>> {
@@ -67,4 +69,64 @@ fn one_seed_gives_one_stream() {
     };
     assert_eq!(make(3), make(3));
     assert_ne!(make(3), make(4));
+}
+
+const PICTURE: &str = include_str!("../../../docs/pictures/F.svg");
+
+#[test]
+fn a_picture_shows_its_listing() {
+    let expected = "sheet 4 5\n0 1 4 3 5\n1 0 0 1 5\n2 1 0 3 1\n3 3 0 4 5\n\
+        4 1 3 2 4\n5 2 2 3 4\n6 1 1 2 3\n7 2 1 3 2\n";
+    assert_eq!(listing_shown(PICTURE).as_deref(), Ok(expected));
+}
+
+/// The parts of a picture's line that say where a rectangle stands and what it is called.
+fn telling_parts(line: &str) -> Vec<Range<usize>> {
+    let until = |from: usize, word: &str| from..from + line[from..].find(word).unwrap();
+    if line.starts_with("<rect x=") {
+        return vec![until(0, " fill")];
+    }
+    if line.starts_with("<g>") {
+        let outline = line.rfind("<rect").unwrap();
+        let label = line.find("<text").unwrap();
+        let name = label + line[label..].find('>').unwrap();
+        return vec![
+            until(0, "</title>"),
+            until(outline, " fill"),
+            until(label, " dy"),
+            until(name, "</text>"),
+        ];
+    }
+    Vec::new()
+}
+
+fn telling_digits() -> Vec<usize> {
+    let starts = PICTURE.match_indices('\n').map(|(at, _)| at + 1);
+    let parts = starts.flat_map(|at| {
+        let line = PICTURE[at..].lines().next().unwrap_or("");
+        telling_parts(line)
+            .into_iter()
+            .flatten()
+            .map(move |i| at + i)
+    });
+    parts
+        .filter(|&i| PICTURE.as_bytes()[i].is_ascii_digit())
+        .collect()
+}
+
+#[test]
+fn a_changed_digit_of_a_picture_is_noticed() {
+    let places = telling_digits();
+    assert!(places.len() > 100, "only {} digits", places.len());
+    let told = listing_shown(PICTURE);
+    for place in places {
+        let mut other = PICTURE.as_bytes().to_vec();
+        other[place] = if other[place] == b'9' {
+            b'8'
+        } else {
+            other[place] + 1
+        };
+        let other = String::from_utf8(other).unwrap();
+        assert_ne!(listing_shown(&other), told, "digit at {place}");
+    }
 }
