@@ -1,46 +1,53 @@
 -- Whole answers, as the code comes by them. Assumes nothing.
-use Prim.Native.Nat.{ℕ, _+_, _≤_, _<_}
+use Prim.Native.Nat.{ℕ, zero, suc, _+_, _-_, _%_, _≤_, _<_}
 use mathlib.Core.Path.{_≡_, refl, sym, _∙_}
 use mathlib.Core.Bool.{Bool, true, false, not}
 use mathlib.Core.List.{List, [], _∷_, _++_}
 use native.Mathlib.Omega.{arith}
-use borrow.Author.Tests.{le-leb, lt-leb, leb-true, not-true, not-false}
-use lib.Dec.{leb}
-use lib.ListN.{length, drop}
+use borrow.Author.Tests.{lt-ltb, le-leb, lt-leb, not-true, not-false}
+use lib.Dec.{leb, ltb}
+use lib.ListN.{length, getD, drop, length-append}
 use lib.Seq.{sets, sets-eq}
-use Rattle.floor.specs.Lists.Laws.{and-right}
-use Rattle.floor.specs.Fields.{readField}
-use Rattle.floor.specs.Jobs.{Job, pairsIn, test2, test3, Reading, fails, reads, passing, firstThree, readJob, writeJob}
-use Rattle.floor.specs.Jobs.Written.{Counted, counted, read-length, length-writeJob}
+use Rattle.floor.specs.Lists.{all}
+use Rattle.floor.specs.Lists.Laws.{and-both}
+use Rattle.floor.specs.Jobs.{Job, test2, test3, Reading, fails, reads, passing, firstThree, readJob, writeJob}
+use Rattle.floor.specs.Jobs.Written.{read-test2, length-writeJob}
 use Rattle.floor.specs.Calls.{refusal, wrote, writes}
 use Rattle.floor.specs.Quoted.{plain}
-use Rattle.floor.specs.Texts.{line, refusedWord, tooLong}
+use Rattle.floor.specs.Texts.{decimal, line, refusedWord, tooLong}
 use Rattle.floor.specs.JobTexts.{sided, texted, textAnswer, textOf, jobText, TextRead, wrongLine, aJob, readText, jobAnswer, jobOf as textJob}
+use Rattle.floor.specs.JobTexts.Back.{bytesOnly, text-length}
 use Rattle.stars.specs.declared.Stars.{Stars}
-use Rattle.stars.specs.Held.{jobOf, noStars, heldOf}
+use Rattle.stars.specs.Held.{toAt, entryAt, cells, startOf, endOf, heldStar, starsIn, jobOf, noStars, heldOf}
 use Rattle.stars.proofs.Back.{given-back}
-use Rattle.stars.proofs.Holding.{length-stars}
 use Rattle.jobs.specs.declared.Answer.the-variants.{Passed, Refused}
 use Rattle.jobs.specs.declared.Read.{Read}
 use Rattle.jobs.specs.Reads.{said, outcome, Tells}
 use Rattle.fields.specs.declared.Written.{Written}
 use Rattle.fields.specs.declared.Written.the-variants.{Wrote, TooShort}
 use Rattle.fields.specs.Writes.{replied, writing}
+use Rattle.letters.specs.Puts.{Puts}
+use Rattle.letters.proofs.Rows.{front-put}
+use Rattle.letters.proofs.Numbers.{decimal-short}
 use Rattle.job_texts.specs.declared.Lack.{Lack}
 use Rattle.job_texts.specs.declared.Verdict.the-variants.{Right, Wrong}
 use Rattle.job_texts.specs.declared.Taken.{Taken}
-use Rattle.job_texts.specs.Reads.{lackOf, numberIn, wrongAt, allHeld, finish, toldText, takenOf}
+use Rattle.job_texts.specs.Reads.{lackOf, wrongAt, allHeld, finish, toldText, takenOf}
 use Rattle.job_texts.proofs.Limits.{Within, text-within}
+use Rattle.job_texts.proofs.Telling.{line-short}
 
--- a text put at the front, under any name that it has
-pub front-put : (t w o x : List ℕ) (r most : ℕ) → t ≡ w → most ≤ 8192 → (x ≡ sets o 0 w) × (r ≡ 0 + length w) × (r ≤ 0 + most)
-    → (r ≡ length t) × (x ≡ sets o 0 t) × (r ≤ 8192)
-front-put t w o x r most e h p = rw e (omega arith, p .0, omega arith)
+-- a text that there is room for, put at the front of a page, under any name that it has
+pub page-put : (t w : List ℕ) {o x : List ℕ} {r : ℕ} → Puts o 0 w x r → t ≡ w → length w ≤ 8192 → length o ≡ 8192 → (r ≡ length t) × (x ≡ sets o 0 t) × (r ≤ 8192)
+page-put t w {o} {x} {r} p e h l = rw e (front-put o w x r p l h)
 
--- input that is too long
-pub too-long-put : (t o x : List ℕ) (r : ℕ) → t ≡ tooLong → (x ≡ sets o 0 tooLong) × (r ≡ 0 + 15) → (r ≡ length t) × (x ≡ sets o 0 t) × (r ≤ 8192)
+-- what is said of input that is too long or refused is short
+pub too-long-short : length tooLong ≤ 8192
 unfolding tooLong plain
-too-long-put t o x r e p = front-put t tooLong o x r 15 e (omega arith) (p .0, p .1, omega arith)
+too-long-short = omega arith
+
+pub refusal-short : (k : ℕ) → k < 256 → length (refusedWord ++ line (k ∷ [])) ≤ 8192
+unfolding refusedWord line plain
+refusal-short k h = omega (arith, length-append (decimal k) (10 ∷ []), decimal-short 2 k (omega arith))
 
 -- the bytes of a held job: there is room for them, so they are written
 module _ (h : Stars) (o x : List ℕ) (w : Written) (l : length (writeJob (jobOf h)) ≤ 8192) (k : length o ≡ 8192)
@@ -66,19 +73,31 @@ module _ (h : Stars) (o x : List ℕ) (w : Written) (l : length (writeJob (jobOf
       let z : _≡_ {A = ℕ} 0 1 = cc in
       absurd (omega arith)
 
--- a job that can be written, or refusal 4
-module _ (h : Stars) (b : Bool) (e : b ≡ sided (jobOf h)) (o x : List ℕ) (r : ℕ) where
-  pub four-put : not b ≡ true → (x ≡ sets o 0 (refusedWord ++ line (4 ∷ []))) × (r ≡ 0 + length (refusedWord ++ line (4 ∷ []))) × (r ≤ 0 + 14)
-      → (r ≡ length (textAnswer (passing (sided (jobOf h)) 4 (reads (jobOf h)))))
-      × (x ≡ sets o 0 (textAnswer (passing (sided (jobOf h)) 4 (reads (jobOf h))))) × (r ≤ 8192)
-  unfolding textAnswer passing
-  four-put t p = front-put (textAnswer (passing (sided (jobOf h)) 4 (reads (jobOf h)))) (refusedWord ++ line (4 ∷ [])) o x r 14 (rw (← e, not-true b t)) (omega arith) p
+-- the neighbours of held stars are bytes
+cells-bytes : (m k : ℕ) (nbr kind : List ℕ) → all (λ e. ltb (e .to) 256) (cells m k nbr kind) ≡ true
+unfolding all cells entryAt toAt
+cells-bytes zero k nbr kind = refl
+cells-bytes (suc m) k nbr kind = and-both _ _ (lt-ltb (getD nbr k 0 % 256) 256 (omega arith)) (cells-bytes m (suc k) nbr kind)
 
-  pub rooms-put : not b ≡ false → (x ≡ sets o 0 (jobText (jobOf h))) × (r ≡ length (jobText (jobOf h))) × (r ≤ 5100)
-      → (r ≡ length (textAnswer (passing (sided (jobOf h)) 4 (reads (jobOf h)))))
-      × (x ≡ sets o 0 (textAnswer (passing (sided (jobOf h)) 4 (reads (jobOf h))))) × (r ≤ 8192)
+stars-bytes : (m i : ℕ) (ends nbr kind : List ℕ) → bytesOnly (starsIn m i ends nbr kind) ≡ true
+unfolding bytesOnly all starsIn heldStar
+stars-bytes zero i ends nbr kind = refl
+stars-bytes (suc m) i ends nbr kind =
+    and-both _ _ (cells-bytes (endOf ends (length nbr) i - startOf ends (length nbr) i) (startOf ends (length nbr) i) nbr kind) (stars-bytes m (suc i) ends nbr kind)
+
+-- a job that can be written, or refusal 4
+module _ (h : Stars) (b : Bool) (e : b ≡ sided (jobOf h)) where
+  pub four-text : not b ≡ true → textAnswer (passing (sided (jobOf h)) 4 (reads (jobOf h))) ≡ refusedWord ++ line (4 ∷ [])
   unfolding textAnswer passing
-  rooms-put t p = rw (← e, not-false b t) (p .1, p .0, omega arith)
+  four-text t = rw (← e, not-true b t)
+
+  pub rooms-text : not b ≡ false → textAnswer (passing (sided (jobOf h)) 4 (reads (jobOf h))) ≡ jobText (jobOf h)
+  unfolding textAnswer passing
+  rooms-text t = rw (← e, not-false b t)
+
+  pub rooms-short : not b ≡ false → test2 (length (jobOf h)) ≡ true → test3 (jobOf h) ≡ true → length (jobText (jobOf h)) ≤ 8192
+  unfolding jobOf
+  rooms-short t p q = omega (arith, text-length (jobOf h) p q (sym e ∙ not-false b t) (stars-bytes (h .count) 0 (h .ends) (h .nbr) (h .kind)))
 
 -- what tests 1 to 3 come to
 no-reads : {X : Type 0} {k : ℕ} {j : Job} → reads j ≡ fails k → X
@@ -102,12 +121,6 @@ three-passed (reads i) j e = go (test3 i) refl e
     go true t e = let q : i ≡ j = cc in (e, rw q at t)
     go false t e = no-reads (sym e)
 
-read-few : (bs : List ℕ) (j : Job) → readJob bs ≡ reads j → length j ≤ 60
-unfolding readJob test2
-read-few bs j e =
-    let c : Counted (readField bs) j = counted (readField bs) j e in
-    omega (arith, read-length (c .count) (c .rest) j (c .is-stars), leb-true (c .count) 60 (and-right (leb 1 (c .count)) (leb (c .count) 60) (c .passes)))
-
 -- what is printed for some bytes
 module _ (bs : List ℕ) where
   pub long-text : 8192 < length bs → textOf bs ≡ tooLong
@@ -119,15 +132,8 @@ module _ (bs : List ℕ) where
     unfolding outcome said
     held-read d = three-passed (readJob bs) (jobOf (q .stars)) (sym (t .says) ∙ rw d)
 
-    pub few-held : q .answer ≡ Passed → q .stars .count ≤ 60
-    unfolding jobOf
-    few-held d =
-        let h : Stars = q .stars in
-        omega (arith, read-few bs (jobOf h) (held-read d .0), length-stars (h .count) 0 (h .ends) (h .nbr) (h .kind))
-
-    pub pairs-held : q .answer ≡ Passed → pairsIn (jobOf (q .stars)) ≤ 360
-    unfolding test3
-    pairs-held d = leb-true (pairsIn (jobOf (q .stars))) 360 (held-read d .1)
+    pub held-passes : q .answer ≡ Passed → (test2 (length (jobOf (q .stars))) ≡ true) × (test3 (jobOf (q .stars)) ≡ true)
+    held-passes d = (read-test2 bs (jobOf (q .stars)) (held-read d .0), held-read d .1)
 
     module _ (l : length bs ≤ 8192) where
       short-text : textOf bs ≡ textAnswer (texted (readJob bs))
@@ -171,10 +177,10 @@ module _ (t : List ℕ) where
             let g : heldOf j ≡ q .stars = cc in
             rw (← g, given-back j (omega (arith, w .0)) (w .1) (w .2))
 
-    pub wrong-small : (x : Lack) → q .verdict ≡ Wrong x → length t ≤ 16384 → (q .line < 100000) × (numberIn (lackOf x) < 100000)
-    wrong-small x d l =
+    pub wrong-short : (x : Lack) → q .verdict ≡ Wrong x → length t ≤ 16384 → length (jobAnswer (wrongLine (q .line) (lackOf x))) ≤ 8192
+    wrong-short x d l =
         let w : Within (length t + 1) 4 360 (wrongLine (q .line) (lackOf x)) = rw (read-wrong x d) at (text-within t) in
-        (omega (arith, w .0), omega (arith, w .1))
+        omega (arith, line-short (q .line) (lackOf x) (omega (arith, w .0)) (omega (arith, w .1)))
 
     pub right-small : q .verdict ≡ Right → length (writeJob (jobOf (q .stars))) ≤ 8192
     right-small d =

@@ -1,61 +1,53 @@
 -- A wrong line told in words, as the code comes by it. Assumes nothing.
-use Prim.Native.Nat.{ℕ, _+_, _≤_, _<_}
-use mathlib.Core.Path.{_≡_, refl, _∙_, ap}
+use Prim.Native.Nat.{ℕ, _≤_, _<_}
+use mathlib.Core.Path.{_≡_}
 use mathlib.Core.List.{List, [], _∷_, _++_}
 use native.Mathlib.Omega.{arith}
-use lib.ListN.{length, set}
-use lib.Seq.{sets}
+use lib.ListN.{length, length-append}
 use Rattle.floor.specs.Quoted.{plain}
 use Rattle.floor.specs.Texts.{decimal}
-use Rattle.floor.specs.JobTexts.{Expected, wrongLine, expectedText, jobAnswer}
-use Rattle.letters.proofs.Rows.{both-put, both-end}
+use Rattle.floor.specs.JobTexts.{Expected, roomNumber, colon, side, neighbour, comma, noRoom, noContact, wrongLine, expectedText, jobAnswer}
+use Rattle.letters.specs.Puts.{Puts}
+use Rattle.letters.proofs.Rows.{both-puts}
+use Rattle.letters.proofs.Numbers.{decimal-short}
 use Rattle.job_texts.specs.declared.Lack.{Lack}
 use Rattle.job_texts.specs.declared.Lack.the-variants.{RoomNumber}
 use Rattle.job_texts.specs.Reads.{lackOf, numberIn}
 
 -- what is lacking, in words
-pub same-lack : (l k : Lack) → l ≡ k → expectedText (lackOf l) ≡ expectedText (lackOf k)
-same-lack l k e = ap (λ (x : Lack). expectedText (lackOf x)) e
+pub lack-told : (l k : Lack) {o x : List ℕ} {at r : ℕ} → l ≡ k → Puts o at (expectedText (lackOf k)) x r → Puts o at (expectedText (lackOf l)) x r
+lack-told l k e p = rw e p
 
 -- a room's number
-module _ (l : Lack) (n : ℕ) (e : l ≡ RoomNumber n) where
-  pub room-small : numberIn (lackOf l) < 100000 → n < 100000
-  unfolding numberIn lackOf
-  room-small h = rw e at h
-
-  room-text : plain "the number of room " ++ decimal n ≡ expectedText (lackOf l)
-  unfolding expectedText lackOf
-  room-text = rw e
-
-  pub room-told : (o x y : List ℕ) (at m r : ℕ) → (x ≡ sets o at (plain "the number of room ")) × (m ≡ at + 19)
-      → (y ≡ sets x m (decimal n)) × (r ≡ m + length (decimal n)) × (r ≤ m + 5)
-      → (y ≡ sets o at (expectedText (lackOf l))) × (r ≡ at + length (expectedText (lackOf l))) × (r ≤ at + 40)
-  unfolding plain
-  room-told o x y at m r p q =
-      let w : List ℕ = plain "the number of room " in
-      let em : m ≡ at + length w = omega (arith, p .1) in (
-        both-put o x y w (decimal n) at m (p .0) em (q .0) ∙ ap (λ (t : List ℕ). sets o at t) room-text,
-        both-end w (decimal n) at m r em (q .1) ∙ ap (λ (t : List ℕ). at + length t) room-text,
-        omega (arith, p .1, q .2),
-      )
+pub room-told : (l : Lack) (n : ℕ) {o x y : List ℕ} {at m r : ℕ} → l ≡ RoomNumber n → Puts o at (plain "the number of room ") x m → Puts x m (decimal n) y r
+    → Puts o at (expectedText (lackOf l)) y r
+unfolding expectedText lackOf
+room-told l n e p q = rw e (both-puts _ _ _ _ _ _ _ _ p q)
 
 -- the whole line
-module _ (x : Expected) (n a b c d : ℕ) (ea : a ≡ 0 + 5) (eb : b ≡ a + length (decimal n)) (ec : c ≡ b + 11) (ed : d ≡ c + length (expectedText x)) where
-  pub line-told : (o p q r s : List ℕ) → p ≡ sets o 0 (plain "line ") → q ≡ sets p a (decimal n) → r ≡ sets q b (plain ": expected ")
-      → s ≡ sets r c (expectedText x) → set s d 10 ≡ sets o 0 (jobAnswer (wrongLine n x))
-  unfolding jobAnswer plain
-  line-told o p q r s ep eq er es =
-      let ends : List ℕ = expectedText x ++ (10 ∷ []) in
-      let behind : List ℕ = plain ": expected " ++ ends in
-      both-put o p (set s d 10) (plain "line ") (decimal n ++ behind) 0 a ep ea
-      (both-put p q (set s d 10) (decimal n) behind a b eq eb
-      (both-put q r (set s d 10) (plain ": expected ") ends b c er ec (both-put r s (set s d 10) (expectedText x) (10 ∷ []) c d es ed refl)))
+pub line-told : (n : ℕ) (x : Expected) {o p q s t u : List ℕ} {a b c d r : ℕ} → Puts o 0 (plain "line ") p a → Puts p a (decimal n) q b
+    → Puts q b (plain ": expected ") s c → Puts s c (expectedText x) t d → Puts t d (10 ∷ []) u r → Puts o 0 (jobAnswer (wrongLine n x)) u r
+unfolding jobAnswer plain
+line-told n x e f g h k = both-puts _ _ _ _ _ _ _ _ e (both-puts _ _ _ _ _ _ _ _ f (both-puts _ _ _ _ _ _ _ _ g (both-puts _ _ _ _ _ _ _ _ h k)))
 
-  pub line-end : d + 1 ≡ 0 + length (jobAnswer (wrongLine n x))
-  unfolding jobAnswer plain
-  line-end =
-      let ends : List ℕ = expectedText x ++ (10 ∷ []) in
-      let behind : List ℕ = plain ": expected " ++ ends in
-      both-end (plain "line ") (decimal n ++ behind) 0 a (d + 1) ea
-      (both-end (decimal n) behind a b (d + 1) eb
-      (both-end (plain ": expected ") ends b c (d + 1) ec (both-end (expectedText x) (10 ∷ []) c d (d + 1) ed refl)))
+-- no line takes more than 62 bytes
+lack-short : (x : Expected) → numberIn x < 100000 → length (expectedText x) ≤ 40
+unfolding numberIn expectedText plain
+lack-short (roomNumber r) h = omega (arith, length-append (plain "the number of room ") (decimal r), decimal-short 4 r h)
+lack-short colon h = omega arith
+lack-short side h = omega arith
+lack-short neighbour h = omega arith
+lack-short comma h = omega arith
+lack-short noRoom h = omega arith
+lack-short noContact h = omega arith
+
+pub line-short : (n : ℕ) (x : Expected) → n < 100000 → numberIn x < 100000 → length (jobAnswer (wrongLine n x)) ≤ 62
+unfolding jobAnswer plain
+line-short n x l h =
+    omega (
+      arith,
+      length-append (decimal n) (plain ": expected " ++ (expectedText x ++ (10 ∷ []))),
+      length-append (expectedText x) (10 ∷ []),
+      decimal-short 4 n l,
+      lack-short x h,
+    )

@@ -1,12 +1,14 @@
-// A held job, written as text into a lent buffer: contacts, a room's line, and all the lines.
+// A held job, written as text into a lent buffer, as far as it reaches: contacts, a room's line, and all the lines.
 ghost use mathlib.Core.Path.{_≡_};
-ghost use Prim.Native.Nat.{_+_, _*_, _≤_, _<_};
+ghost use mathlib.Core.Bool.{true};
+ghost use Prim.Native.Nat.{_+_, _-_, _≤_, _<_};
 ghost use lib.ListN.{length};
 ghost use lib.Seq.{sets};
-ghost use Rattle.floor.specs.Jobs.{pairsIn, reads, passing};
+ghost use Rattle.floor.specs.Jobs.{test2, test3, reads, passing};
 ghost use Rattle.floor.specs.JobTexts.{vertexWord, contactText, contactsText, roomText, jobText, sided, textAnswer};
 ghost use Rattle.stars.specs.Pairs.{pair};
 ghost use Rattle.stars.specs.Held.{cells, heldStar, jobOf};
+ghost use Rattle.letters.specs.Puts.{Puts};
 ghost use Rattle.job_texts.specs.Writes.{sideText, moreText};
 use stars::Stars;
 
@@ -14,8 +16,7 @@ const FRAME: [u8; 4] = [b'N', b'W', b'S', b'E'];
 
 // A kind by its side, a blank before and behind it; of a number that is no kind the blanks alone.
 fn put_side(out: &mut [u8], at: usize, kind: u8) -> usize
-    requires { ⌜ at + 7 ≤ length (now out) ⌝ }
-    ensures { λ r. ⌜ (now (out .exit) ≡ sets (now (out .entry)) at (sideText kind)) × (r ≡ at + length (sideText kind)) × (r ≤ at + 7) ⌝ }
+    ensures { λ r. ⌜ Puts (now (out .entry)) at (sideText kind) (now (out .exit)) r ⌝ }
 {
     if kind == 0 {
         return letters::word::put_word(out, at, b" above ");
@@ -34,71 +35,63 @@ fn put_side(out: &mut [u8], at: usize, kind: u8) -> usize
 
 // A vertex: a frame side by its letter, a room by its number.
 fn put_vertex(out: &mut [u8], at: usize, v: usize) -> usize
-    requires { ⌜ (v < 256) × (at + 5 ≤ length (now out)) ⌝ }
-    ensures { λ r. ⌜ (now (out .exit) ≡ sets (now (out .entry)) at (vertexWord v)) × (r ≡ at + length (vertexWord v)) × (r ≤ at + 5) ⌝ }
+    ensures { λ r. ⌜ Puts (now (out .entry)) at (vertexWord v) (now (out .exit)) r ⌝ }
 {
     if v < 4 {
-        out[at] = FRAME[v];
-        return at + 1;
+        return letters::word::put_byte(out, at, FRAME[v]);
     }
     letters::number::put_decimal(out, at, v)
 }
 
 // A contact.
 fn put_contact(out: &mut [u8], at: usize, v: usize, kind: u8) -> usize
-    requires { ⌜ (v < 256) × (at + 12 ≤ length (now out)) ⌝ }
-    ensures { λ r. ⌜ (now (out .exit) ≡ sets (now (out .entry)) at (contactText (pair v kind)))
-        × (r ≡ at + length (contactText (pair v kind))) × (r ≤ at + 12) ⌝ }
+    ensures { λ r. ⌜ Puts (now (out .entry)) at (contactText (pair v kind)) (now (out .exit)) r ⌝ }
 {
     let next = put_side(out, at, kind);
     put_vertex(out, next, v)
 }
 
-// The m contacts from a place on, a comma before each.
+// The contacts from a place to an end, a comma before each.
 fn put_more<'a>(
     out: &mut [u8],
     at: usize,
     nbr: &'a [u16],
     kind: &'a [u8],
     from: usize,
-    m: usize,
+    end: usize,
 ) -> usize
-    requires { ⌜ (at + 13 * m ≤ length (now out)) × (from + m ≤ length (now nbr)) ⌝ }
-    ensures { λ r. ⌜ (now (out .exit) ≡ sets (now (out .entry)) at (moreText (cells m from (now (nbr .entry)) (now (kind .entry)))))
-        × (r ≡ at + length (moreText (cells m from (now (nbr .entry)) (now (kind .entry))))) × (r ≤ at + 13 * m) ⌝ }
+    ensures { λ r. ⌜ Puts (now (out .entry)) at (moreText (cells (end - from) from (now (nbr .entry)) (now (kind .entry)))) (now (out .exit)) r ⌝ }
 {
     let mut next = at;
-    let mut i: usize = 0;
-    while i < m {
-        out[next] = b',';
-        let v = stars::held::to_at(nbr, from + i);
-        let k = stars::held::kind_at(kind, from + i);
-        next = put_contact(out, next + 1, v, k);
-        i += 1;
+    let mut k = from;
+    while k < end {
+        let first = letters::word::put_byte(out, next, b',');
+        let v = stars::held::to_at(nbr, k);
+        let side = stars::held::kind_at(kind, k);
+        next = put_contact(out, first, v, side);
+        k += 1;
     }
     next
 }
 
-// The m contacts from a place on, commas between.
+// The contacts from a place to an end, commas between.
 fn put_contacts<'a>(
     out: &mut [u8],
     at: usize,
     nbr: &'a [u16],
     kind: &'a [u8],
     from: usize,
-    m: usize,
+    end: usize,
 ) -> usize
-    requires { ⌜ (at + 13 * m ≤ length (now out)) × (from + m ≤ length (now nbr)) ⌝ }
-    ensures { λ r. ⌜ (now (out .exit) ≡ sets (now (out .entry)) at (contactsText (cells m from (now (nbr .entry)) (now (kind .entry)))))
-        × (r ≡ at + length (contactsText (cells m from (now (nbr .entry)) (now (kind .entry))))) × (r ≤ at + 13 * m) ⌝ }
+    ensures { λ r. ⌜ Puts (now (out .entry)) at (contactsText (cells (end - from) from (now (nbr .entry)) (now (kind .entry)))) (now (out .exit)) r ⌝ }
 {
-    if m == 0 {
+    if end <= from {
         return at;
     }
     let v = stars::held::to_at(nbr, from);
-    let k = stars::held::kind_at(kind, from);
-    let next = put_contact(out, at, v, k);
-    put_more(out, next, nbr, kind, from + 1, m - 1)
+    let side = stars::held::kind_at(kind, from);
+    let next = put_contact(out, at, v, side);
+    put_more(out, next, nbr, kind, from + 1, end)
 }
 
 // The line of a room.
@@ -110,23 +103,19 @@ fn put_room<'a>(
     kind: &'a [u8],
     i: usize,
 ) -> usize
-    requires { ⌜ (i < 60) × (length (now nbr) ≡ 360) × (at + (7 + 13 * length (heldStar (now ends) (now nbr) (now kind) i)) ≤ length (now out)) ⌝ }
-    ensures { λ r. ⌜ (now (out .exit) ≡ sets (now (out .entry)) at (roomText (4 + i) (heldStar (now (ends .entry)) (now (nbr .entry)) (now (kind .entry)) i)))
-        × (r ≡ at + length (roomText (4 + i) (heldStar (now (ends .entry)) (now (nbr .entry)) (now (kind .entry)) i)))
-        × (r ≤ at + (7 + 13 * length (heldStar (now (ends .entry)) (now (nbr .entry)) (now (kind .entry)) i))) ⌝ }
+    requires { ⌜ i < 256 ⌝ }
+    ensures { λ r. ⌜ Puts (now (out .entry)) at (roomText (4 + i) (heldStar (now (ends .entry)) (now (nbr .entry)) (now (kind .entry)) i)) (now (out .exit)) r ⌝ }
 {
     let from = stars::held::start_of(ends, nbr.len(), i);
-    let m = stars::held::star_length(ends, nbr, i);
+    let end = stars::held::end_of(ends, nbr.len(), i);
     let first = letters::line::put_then(out, at, 4 + i, b':');
-    let end = put_contacts(out, first, nbr, kind, from, m);
-    out[end] = b'\n';
-    end + 1
+    let next = put_contacts(out, first, nbr, kind, from, end);
+    letters::word::put_byte(out, next, b'\n')
 }
 
-// The lines of all rooms, of which there are at most 60, with at most 360 contacts.
+// The lines of all rooms, at the front.
 fn put_rooms(stars: Stars, out: &mut [u8]) -> usize
-    requires { ⌜ (stars .count ≤ 60) × (pairsIn (jobOf stars) ≤ 360) × (5100 ≤ length (now out)) ⌝ }
-    ensures { λ r. ⌜ (now (out .exit) ≡ sets (now (out .entry)) 0 (jobText (jobOf stars))) × (r ≡ length (jobText (jobOf stars))) × (r ≤ 5100) ⌝ }
+    ensures { λ r. ⌜ Puts (now (out .entry)) 0 (jobText (jobOf stars)) (now (out .exit)) r ⌝ }
 {
     let count = fields::wide(stars.count);
     let mut next: usize = 0;
@@ -140,7 +129,7 @@ fn put_rooms(stars: Stars, out: &mut [u8]) -> usize
 
 // The text of a held job, or refusal 4 where a kind is no side.
 pub fn put_job(stars: Stars, out: &mut [u8; 8192]) -> usize
-    requires { ⌜ (stars .count ≤ 60) × (pairsIn (jobOf stars) ≤ 360) ⌝ }
+    requires { ⌜ (test2 (length (jobOf stars)) ≡ true) × (test3 (jobOf stars) ≡ true) ⌝ }
     ensures { λ r. ⌜ (r ≡ length (textAnswer (passing (sided (jobOf stars)) 4 (reads (jobOf stars)))))
         × (now (out .exit) ≡ sets (now (out .entry)) 0 (textAnswer (passing (sided (jobOf stars)) 4 (reads (jobOf stars))))) × (r ≤ 8192) ⌝ }
 {

@@ -1,5 +1,4 @@
-use native.Mathlib.Omega.{arith}
-use Rattle.job_texts.proofs.Answers.{front-put, too-long-put, long-job, wrong-small, right-small, right-job, wrong-job}
+use Rattle.job_texts.proofs.Answers.{page-put, too-long-short, long-job, right-small, right-job, wrong-job, wrong-short}
 use borrow.Author.Needs.{needs}
 use Rattle.job_texts.proofs.job_of.Statement.{statement}
 use Rattle.job_texts.proofs.job_of.Tie as tie
@@ -8,7 +7,7 @@ put-too-long-requires : tie.Need-put-too-long-requires
 put-too-long-requires c κs = search needs
 
 returns : tie.Need-returns
-returns c = too-long-put _ _ _ _ (long-job (c .before .before .before .before .args .text .now) (search needs)) (c .put-too-long .ensures)
+returns c = page-put _ _ (c .put-too-long .ensures) (long-job (c .before .before .before .before .args .text .now) (search needs)) too-long-short (search needs)
 
 read-text-requires : tie.Need-read-text-requires
 read-text-requires c κs = search needs
@@ -23,14 +22,13 @@ enum-known-verdict : tie.Need-enum-known-verdict
 enum-known-verdict c = search needs
 
 put-wrong-requires : tie.Need-put-wrong-requires
-put-wrong-requires c κs = let few = wrong-small (c .before .before .before .before .before .before .before .before .args .text .now) _ (c .before .before .before .before .before .read-text .ensures) (c .before .before .verdict .given .0 .0) (search needs) (search needs) in
-    (few .0, few .1, search needs)
+put-wrong-requires c κs = search needs
 
 returns-2 : tie.Need-returns-2
 returns-2 c = rw (right-job (c .before .before .before .before .before .before .before .before .args .text .now) _ (c .before .before .before .before .before .read-text .ensures) (search needs) (search needs)) (c .put-bytes .ensures)
 
 returns-3 : tie.Need-returns-3
-returns-3 c = front-put _ _ _ _ _ 62 (wrong-job (c .before .before .before .before .before .before .before .before .before .args .text .now) _ (c .before .before .before .before .before .before .read-text .ensures) (search needs) _ (search needs)) (omega arith) (c .put-wrong .ensures)
+returns-3 c = page-put _ _ (c .put-wrong .ensures) (wrong-job (c .before .before .before .before .before .before .before .before .before .args .text .now) _ (c .before .before .before .before .before .before .read-text .ensures) (search needs) _ (search needs)) (search (wrong-short, needs)) (search needs)
 
 pub job-of-spec : {M : Type 1} → statement M
 job-of-spec =

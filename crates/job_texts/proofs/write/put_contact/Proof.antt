@@ -1,4 +1,4 @@
-use Rattle.job_texts.proofs.Put.{contact-put, contact-end}
+use Rattle.job_texts.proofs.Put.{contact-put}
 use borrow.Author.Needs.{needs}
 use Rattle.job_texts.proofs.write.put_contact.Statement.{statement}
 use Rattle.job_texts.proofs.write.put_contact.Tie as tie
@@ -13,7 +13,7 @@ same-length : tie.Need-same-length
 same-length c = search needs
 
 returns : tie.Need-returns
-returns c = (search (contact-put, needs), search (contact-end, needs), search needs)
+returns c = search (contact-put, needs)
 
 pub put-contact-spec : {M : Type 1} → statement M
 put-contact-spec = tie.close (tie.spec put-side-requires put-vertex-requires same-length returns)

@@ -1,11 +1,10 @@
-use native.Mathlib.Omega.{arith}
-use Rattle.job_texts.proofs.Put.{none-put, contacts-put, contacts-end}
+use Rattle.job_texts.proofs.Put.{contacts-none, contacts-put}
 use borrow.Author.Needs.{needs}
 use Rattle.job_texts.proofs.write.put_contacts.Statement.{statement}
 use Rattle.job_texts.proofs.write.put_contacts.Tie as tie
 
 returns : tie.Need-returns
-returns c = none-put _ _ _ _ _ _ (search needs)
+returns c = search (contacts-none, needs)
 
 to-at-requires : tie.Need-to-at-requires
 to-at-requires c κs = search needs
@@ -19,9 +18,6 @@ put-contact-requires c κs = search needs
 add-put-more : tie.Need-add-put-more
 add-put-more c = search needs
 
-sub-put-more : tie.Need-sub-put-more
-sub-put-more c = search needs
-
 put-more-requires : tie.Need-put-more-requires
 put-more-requires c κs = search needs
 
@@ -29,7 +25,7 @@ same-length : tie.Need-same-length
 same-length c = search needs
 
 returns-2 : tie.Need-returns-2
-returns-2 c = (search (contacts-put, needs), search (contacts-end, needs), search needs)
+returns-2 c = search (contacts-put, needs)
 
 pub put-contacts-spec : {M : Type 1} → statement M
 put-contacts-spec =
@@ -40,7 +36,6 @@ put-contacts-spec =
     kind-at-requires
     put-contact-requires
     add-put-more
-    sub-put-more
     put-more-requires
     same-length
     returns-2)

@@ -1,4 +1,5 @@
-use Rattle.job_texts.proofs.Answers.{four-put, rooms-put}
+use native.Mathlib.Omega.{arith}
+use Rattle.job_texts.proofs.Answers.{page-put, refusal-short, four-text, rooms-text, rooms-short}
 use borrow.Author.Needs.{needs}
 use Rattle.job_texts.proofs.write.put_job.Statement.{statement}
 use Rattle.job_texts.proofs.write.put_job.Tie as tie
@@ -10,13 +11,13 @@ put-refusal-requires : tie.Need-put-refusal-requires
 put-refusal-requires c κs = search needs
 
 returns : tie.Need-returns
-returns c = four-put _ _ (c .before .before .before .all-sided .ensures) _ _ _ (search needs) (c .put-refusal .ensures)
+returns c = page-put _ _ (c .put-refusal .ensures) (four-text _ _ (c .before .before .before .all-sided .ensures) (search needs)) (refusal-short 4 (omega arith)) (search needs)
 
 put-rooms-requires : tie.Need-put-rooms-requires
 put-rooms-requires c κs = search needs
 
 returns-2 : tie.Need-returns-2
-returns-2 c = rooms-put _ _ (c .before .before .before .all-sided .ensures) _ _ _ (search needs) (c .put-rooms .ensures)
+returns-2 c = page-put _ _ (c .put-rooms .ensures) (rooms-text _ _ (c .before .before .before .all-sided .ensures) (search needs)) (search (rooms-short, needs)) (search needs)
 
 pub put-job-spec : {M : Type 1} → statement M
 put-job-spec =

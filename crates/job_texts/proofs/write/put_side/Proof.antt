@@ -1,6 +1,8 @@
-use native.Mathlib.Omega.{arith}
 use Rattle.floor.specs.Quoted.{plain}
-use Rattle.job_texts.proofs.Put.{named-put, side-above, side-left, side-below, side-right, side-none}
+use Rattle.floor.specs.JobTexts.{sideWords, sideWord}
+use Rattle.letters.proofs.Rows.{named}
+use Rattle.job_texts.specs.Writes.{sideText}
+use Rattle.job_texts.proofs.Put.{side-put, side-none}
 use borrow.Author.Needs.{needs}
 use Rattle.job_texts.proofs.write.put_side.Statement.{statement}
 use Rattle.job_texts.proofs.write.put_side.Tie as tie
@@ -15,8 +17,8 @@ same-length : tie.Need-same-length
 same-length c = search needs
 
 returns : tie.Need-returns
-unfolding plain
-returns c = named-put _ _ _ _ _ _ 7 (side-above _ (search needs)) (omega arith) (c .before .before .put-word .ensures)
+unfolding sideText sideWord sideWords plain
+returns c = search (side-put, needs)
 
 slice-aggregate-put-word-2 : tie.Need-slice-aggregate-put-word-2
 slice-aggregate-put-word-2 c = search needs
@@ -28,8 +30,8 @@ same-length-2 : tie.Need-same-length-2
 same-length-2 c = search needs
 
 returns-2 : tie.Need-returns-2
-unfolding plain
-returns-2 c = named-put _ _ _ _ _ _ 7 (side-left _ (search needs)) (omega arith) (c .before .before .put-word2 .ensures)
+unfolding sideText sideWord sideWords plain
+returns-2 c = search (side-put, needs)
 
 slice-aggregate-put-word-3 : tie.Need-slice-aggregate-put-word-3
 slice-aggregate-put-word-3 c = search needs
@@ -41,8 +43,8 @@ same-length-3 : tie.Need-same-length-3
 same-length-3 c = search needs
 
 returns-3 : tie.Need-returns-3
-unfolding plain
-returns-3 c = named-put _ _ _ _ _ _ 7 (side-below _ (search needs)) (omega arith) (c .before .before .put-word3 .ensures)
+unfolding sideText sideWord sideWords plain
+returns-3 c = search (side-put, needs)
 
 slice-aggregate-put-word-4 : tie.Need-slice-aggregate-put-word-4
 slice-aggregate-put-word-4 c = search needs
@@ -54,8 +56,8 @@ same-length-4 : tie.Need-same-length-4
 same-length-4 c = search needs
 
 returns-4 : tie.Need-returns-4
-unfolding plain
-returns-4 c = named-put _ _ _ _ _ _ 7 (side-right _ (search needs)) (omega arith) (c .before .before .put-word4 .ensures)
+unfolding sideText sideWord sideWords plain
+returns-4 c = search (side-put, needs)
 
 slice-aggregate-put-word-5 : tie.Need-slice-aggregate-put-word-5
 slice-aggregate-put-word-5 c = search needs
@@ -68,7 +70,7 @@ same-length-5 c = search needs
 
 returns-5 : tie.Need-returns-5
 unfolding plain
-returns-5 c = named-put _ _ _ _ _ _ 7 (side-none _ (search needs) (search needs) (search needs) (search needs)) (omega arith) (c .before .before .put-word5 .ensures)
+returns-5 c = search (named, side-none, needs)
 
 pub put-side-spec : {M : Type 1} → statement M
 put-side-spec =

@@ -1,10 +1,7 @@
 use Rattle.floor.specs.Quoted.{plain}
 use Rattle.floor.specs.JobTexts.{expectedText}
-use Rattle.job_texts.specs.declared.Lack.the-variants.{Colon, Side, Neighbour, Comma, NoRoom, NoContact}
 use Rattle.job_texts.specs.Reads.{lackOf}
-use native.Mathlib.Omega.{arith}
-use Rattle.job_texts.proofs.Put.{named-put}
-use Rattle.job_texts.proofs.Telling.{same-lack, room-small, room-told}
+use Rattle.job_texts.proofs.Telling.{room-told, lack-told}
 use borrow.Author.Needs.{needs}
 use Rattle.job_texts.proofs.wrong.put_lack.Statement.{statement}
 use Rattle.job_texts.proofs.wrong.put_lack.Tie as tie
@@ -19,7 +16,7 @@ put-word-requires : tie.Need-put-word-requires
 put-word-requires c κs = search needs
 
 put-decimal-requires : tie.Need-put-decimal-requires
-put-decimal-requires c κs = (search (room-small, needs), search needs)
+put-decimal-requires c κs = search needs
 
 enum-told : tie.Need-enum-told
 enum-told c = search needs
@@ -80,49 +77,49 @@ same-length c = search needs
 
 returns : tie.Need-returns
 unfolding plain
-returns c = room-told _ _ (search needs) _ _ _ _ _ _ (c .before .before .before .before .before .before .put-word .ensures) (c .before .before .put-decimal .ensures)
+returns c = search (room-told, needs)
 
 same-length-2 : tie.Need-same-length-2
 same-length-2 c = search needs
 
 returns-2 : tie.Need-returns-2
 unfolding expectedText lackOf plain
-returns-2 c = named-put _ _ _ _ _ _ 40 (same-lack (c .before .before .before .before .before .before .before .before .args .lack) Colon (search needs)) (omega arith) (c .before .before .put-word2 .ensures)
+returns-2 c = search (lack-told, needs)
 
 same-length-3 : tie.Need-same-length-3
 same-length-3 c = search needs
 
 returns-3 : tie.Need-returns-3
 unfolding expectedText lackOf plain
-returns-3 c = named-put _ _ _ _ _ _ 40 (same-lack (c .before .before .before .before .before .before .before .before .args .lack) Side (search needs)) (omega arith) (c .before .before .put-word3 .ensures)
+returns-3 c = search (lack-told, needs)
 
 same-length-4 : tie.Need-same-length-4
 same-length-4 c = search needs
 
 returns-4 : tie.Need-returns-4
 unfolding expectedText lackOf plain
-returns-4 c = named-put _ _ _ _ _ _ 40 (same-lack (c .before .before .before .before .before .before .before .before .args .lack) Neighbour (search needs)) (omega arith) (c .before .before .put-word4 .ensures)
+returns-4 c = search (lack-told, needs)
 
 same-length-5 : tie.Need-same-length-5
 same-length-5 c = search needs
 
 returns-5 : tie.Need-returns-5
 unfolding expectedText lackOf plain
-returns-5 c = named-put _ _ _ _ _ _ 40 (same-lack (c .before .before .before .before .before .before .before .before .args .lack) Comma (search needs)) (omega arith) (c .before .before .put-word5 .ensures)
+returns-5 c = search (lack-told, needs)
 
 same-length-6 : tie.Need-same-length-6
 same-length-6 c = search needs
 
 returns-6 : tie.Need-returns-6
 unfolding expectedText lackOf plain
-returns-6 c = named-put _ _ _ _ _ _ 40 (same-lack (c .before .before .before .before .before .before .before .before .args .lack) NoRoom (search needs)) (omega arith) (c .before .before .put-word6 .ensures)
+returns-6 c = search (lack-told, needs)
 
 same-length-7 : tie.Need-same-length-7
 same-length-7 c = search needs
 
 returns-7 : tie.Need-returns-7
 unfolding expectedText lackOf plain
-returns-7 c = named-put _ _ _ _ _ _ 40 (same-lack (c .before .before .before .before .before .before .before .before .args .lack) NoContact (search needs)) (omega arith) (c .before .before .put-word7 .ensures)
+returns-7 c = search (lack-told, needs)
 
 pub put-lack-spec : {M : Type 1} → statement M
 put-lack-spec =

@@ -1,8 +1,5 @@
-use mathlib.Core.Path.{_∙_}
-use lib.ListN.{length-set}
 use Rattle.floor.specs.Quoted.{plain}
-use native.Mathlib.Omega.{arith}
-use Rattle.job_texts.proofs.Telling.{line-told, line-end}
+use Rattle.job_texts.proofs.Telling.{line-told}
 use borrow.Author.Needs.{needs}
 use Rattle.job_texts.proofs.wrong.put_wrong.Statement.{statement}
 use Rattle.job_texts.proofs.wrong.put_wrong.Tie as tie
@@ -25,22 +22,15 @@ put-word-requires-2 c κs = search needs
 put-lack-requires : tie.Need-put-lack-requires
 put-lack-requires c κs = search needs
 
-slice-write-out : tie.Need-slice-write-out
-slice-write-out c = search needs
-
-add-result : tie.Need-add-result
-add-result c = search needs
+put-byte-requires : tie.Need-put-byte-requires
+put-byte-requires c κs = search needs
 
 same-length : tie.Need-same-length
-same-length c = simp length-set (c .before .before .put-lack .kept .0 ∙ (c .before .before .before .before .before .before .put-word2 .kept .0 ∙ (c .before .before .before .before .before .before .before .before .before .before .before .put-decimal .kept .0 ∙ c .before .before .before .before .before .before .before .before .before .before .before .before .before .before .before .put-word .kept .0)))
+same-length c = search needs
 
 returns : tie.Need-returns
 unfolding plain
-returns c = (
-  line-told _ _ _ _ _ _ (c .before .before .before .before .before .before .before .before .before .before .before .before .before .before .before .put-word .ensures .1) (c .before .before .before .before .before .before .before .before .before .before .before .put-decimal .ensures .1) (c .before .before .before .before .before .before .put-word2 .ensures .1) (c .before .before .put-lack .ensures .1) _ _ _ _ _ (c .before .before .before .before .before .before .before .before .before .before .before .before .before .before .before .put-word .ensures .0) (c .before .before .before .before .before .before .before .before .before .before .before .put-decimal .ensures .0) (c .before .before .before .before .before .before .put-word2 .ensures .0) (c .before .before .put-lack .ensures .0),
-  line-end _ _ _ _ _ _ (c .before .before .before .before .before .before .before .before .before .before .before .before .before .before .before .put-word .ensures .1) (c .before .before .before .before .before .before .before .before .before .before .before .put-decimal .ensures .1) (c .before .before .before .before .before .before .put-word2 .ensures .1) (c .before .before .put-lack .ensures .1),
-  search needs,
-)
+returns c = line-told _ _ (c .before .before .before .before .before .before .before .before .before .before .before .before .before .before .before .before .before .before .before .put-word .ensures) (c .before .before .before .before .before .before .before .before .before .before .before .before .before .before .before .put-decimal .ensures) (c .before .before .before .before .before .before .before .before .before .before .put-word2 .ensures) (c .before .before .before .before .before .before .put-lack .ensures) (c .before .before .put-byte .ensures)
 
 pub put-wrong-spec : {M : Type 1} → statement M
 put-wrong-spec =
@@ -52,7 +42,6 @@ put-wrong-spec =
     slice-aggregate-put-word-2
     put-word-requires-2
     put-lack-requires
-    slice-write-out
-    add-result
+    put-byte-requires
     same-length
     returns)
