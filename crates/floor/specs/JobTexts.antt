@@ -1,11 +1,12 @@
 -- A job as text that staff write by hand: a room a line, as `4: above N, left W, below 6, right 5`. Assumes nothing.
 use Prim.Native.Nat.{ℕ, zero, suc, _+_, _-_, _*_}
 use mathlib.Core.Bool.{Bool, true, false, cond, _&&_, _||_}
+use mathlib.Core.Option.{Option, none, some}
 use mathlib.Core.List.{List, [], _∷_, _++_}
 use lib.ListN.{length, drop, getD}
 use lib.Dec.{leb, ltb, eqb}
 use Rattle.floor.specs.Lists.{all, sameNumbers}
-use Rattle.floor.specs.Jobs.{Entry, Star, Job, test2, test3, Reading, fails, reads, passing, readJob, writeJob}
+use Rattle.floor.specs.Jobs.{Entry, Star, Job, test2, Reading, fails, reads, passing, firstThree, readJob, writeJob}
 use Rattle.floor.specs.Quoted.{plain}
 use Rattle.floor.specs.Texts.{decimal, line, refusedWord, tooLong}
 pub mod Shown
@@ -81,32 +82,47 @@ behindWord (b ∷ t) = cond (letter b) (behindWord t) (b ∷ t)
 unfoldable pub next : List ℕ → List ℕ
 next t = skip (behindWord t)
 
--- a number with a digit more; 256 stands for all that is no number below 256
-unfoldable pub withDigit : ℕ → ℕ → ℕ
-withDigit n b = cond (leb 48 b && leb b 57 && ltb (10 * n + (b - 48)) 256) (10 * n + (b - 48)) 256
+-- a digit
+unfoldable pub digit : ℕ → Bool
+digit b = leb 48 b && leb b 57
 
--- the digits of a word read behind a number
-unfoldable pub digitsOn : ℕ → List ℕ → ℕ
-digitsOn n [] = n
-digitsOn n (b ∷ w) = digitsOn (withDigit n b) w
+-- the number that digits say behind a number; none where one of them is no digit
+unfoldable pub digitsOn : ℕ → List ℕ → Option ℕ
+digitsOn n [] = some n
+digitsOn n (b ∷ w) = cond (digit b) (digitsOn (10 * n + (b - 48)) w) none
 
--- the number that a word says, below 256; else 256
-unfoldable pub numberOf : List ℕ → ℕ
-numberOf [] = 256
+-- the number that a word says, if it says one
+unfoldable pub numberOf : List ℕ → Option ℕ
+numberOf [] = none
 numberOf (b ∷ w) = digitsOn 0 (b ∷ w)
 
--- the place at which a word stands among some; behind the last where it does not
-unfoldable pub placeOf : List ℕ → List (List ℕ) → ℕ
-placeOf w [] = 0
-placeOf w (x ∷ xs) = cond (sameNumbers w x) 0 (suc (placeOf w xs))
+-- the place at which a word stands among some, if it does, counted from i on
+unfoldable pub placeOf : ℕ → List ℕ → List (List ℕ) → Option ℕ
+placeOf i w [] = none
+placeOf i w (x ∷ xs) = cond (sameNumbers w x) (some i) (placeOf (suc i) w xs)
 
--- the kind that a word says, below 4; else 4
-unfoldable pub kindOfWord : List ℕ → ℕ
-kindOfWord w = placeOf w sideWords
+-- the kind that a word says, if it is a side
+unfoldable pub kindOfWord : List ℕ → Option ℕ
+kindOfWord w = placeOf 0 w sideWords
 
--- the vertex that a word says, below 256; else 256
-unfoldable pub vertexOfWord : List ℕ → ℕ
-vertexOfWord w = cond (ltb (placeOf w frameWords) 4) (placeOf w frameWords) (numberOf w)
+-- a number that a byte can hold
+unfoldable pub aByte : Option ℕ → Option ℕ
+aByte none = none
+aByte (some n) = cond (ltb n 256) (some n) none
+
+-- the first, or else the second
+unfoldable pub orElse : Option ℕ → Option ℕ → Option ℕ
+orElse none y = y
+orElse (some n) y = some n
+
+-- the vertex that a word says, if it does: a frame side by its letter, or a number up to 255
+unfoldable pub vertexOfWord : List ℕ → Option ℕ
+vertexOfWord w = orElse (placeOf 0 w frameWords) (aByte (numberOf w))
+
+-- just this number is said
+unfoldable pub says : ℕ → Option ℕ → Bool
+says r none = false
+says r (some n) = eqb n r
 
 -- ---- reading: lines
 
@@ -135,14 +151,18 @@ unfoldable pub followed : List ℕ → Line → Line
 followed [] more = star []
 followed (b ∷ t) more = cond (eqb b 44) more (lacks comma)
 
+-- a side and a neighbour: a contact, and what goes on with it
+unfoldable pub contact : Option ℕ → Option ℕ → (Entry → Line) → Line
+contact none v goes = lacks side
+contact (some k) none goes = lacks neighbour
+contact (some k) (some v) goes = goes (record { to = v; kind = k })
+
 -- the contacts of a line, no more of them than are left: each a side and a neighbour
 unfoldable pub contacts : ℕ → List ℕ → Line
 contacts zero t = lacks noContact
 contacts (suc left) t =
-    let k : ℕ = kindOfWord (word t) in
-    let v : ℕ = vertexOfWord (word (next t)) in
     let u : List ℕ = next (next t) in
-    cond (ltb k 4) (cond (ltb v 256) (behindContact (record { to = v; kind = k }) (followed u (contacts left (skip (drop 1 u))))) (lacks neighbour)) (lacks side)
+    contact (kindOfWord (word t)) (vertexOfWord (word (next t))) (λ e. behindContact e (followed u (contacts left (skip (drop 1 u)))))
 
 -- the contacts behind a room's colon: none at all, or some
 unfoldable pub anyContacts : ℕ → List ℕ → Line
@@ -156,7 +176,7 @@ behindNumber left (b ∷ t) = cond (eqb b 58) (anyContacts left (skip t)) (lacks
 
 -- the line of room r, no blanks in front: no room above the sixtieth, and each in its turn
 unfoldable pub roomLine : ℕ → ℕ → List ℕ → Line
-roomLine left r t = cond (test2 (r - 3)) (cond (eqb (numberOf (word t)) r) (behindNumber left (next t)) (lacks (roomNumber r))) (lacks noRoom)
+roomLine left r t = cond (test2 (r - 3)) (cond (says r (numberOf (word t))) (behindNumber left (next t)) (lacks (roomNumber r))) (lacks noRoom)
 
 -- ---- reading: the whole text
 
@@ -223,10 +243,10 @@ expectedText noContact = plain "no more than 360 contacts"
 unfoldable pub sided : Job → Bool
 sided j = all (all (λ e. ltb (e .kind) 4)) j
 
--- tests 1 to 3, and 4 where a kind is over 3: what passes can be written as text
+-- what passes tests 1 to 3 can be written as text, but for 4: a kind over 3 has no word
 unfoldable pub texted : Reading → Reading
 texted (fails k) = fails k
-texted (reads j) = passing (test3 j) 3 (passing (sided j) 4 (reads j))
+texted (reads j) = passing (sided j) 4 (reads j)
 
 -- a job that passes as text, or the number of its refusal
 unfoldable pub textAnswer : Reading → List ℕ
@@ -235,7 +255,7 @@ textAnswer (reads j) = jobText j
 
 -- WHAT IS PRINTED FOR THE BYTES OF A JOB
 unfoldable pub textOf : List ℕ → List ℕ
-textOf bs = cond (leb (length bs) 8192) (textAnswer (texted (readJob bs))) tooLong
+textOf bs = cond (leb (length bs) 8192) (textAnswer (texted (firstThree (readJob bs)))) tooLong
 
 -- a job's bytes, or `line 3: expected ` and what should have stood there
 unfoldable pub jobAnswer : TextRead → List ℕ

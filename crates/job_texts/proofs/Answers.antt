@@ -103,15 +103,6 @@ module _ (h : Stars) (b : Bool) (e : b ≡ sided (jobOf h)) where
 no-reads : {X : Type 0} {k : ℕ} {j : Job} → reads j ≡ fails k → X
 no-reads {X} {k} {j} e = let z : _≡_ {A = ℕ} 0 1 = cc in absurd (omega arith)
 
-three-refused : (x : Reading) (k : ℕ) → firstThree x ≡ fails k → texted x ≡ fails k
-unfolding firstThree texted passing
-three-refused (fails i) k e = e
-three-refused (reads j) k e = go (test3 j) e
-  where
-    go : (b : Bool) → passing b 3 (reads j) ≡ fails k → passing b 3 (passing (sided j) 4 (reads j)) ≡ fails k
-    go true e = no-reads e
-    go false e = e
-
 three-passed : (x : Reading) (j : Job) → firstThree x ≡ reads j → (x ≡ reads j) × (test3 j ≡ true)
 unfolding firstThree passing
 three-passed (fails k) j e = no-reads (sym e)
@@ -128,25 +119,29 @@ module _ (bs : List ℕ) where
   long-text h = let z : leb (length bs) 8192 ≡ false = lt-leb (length bs) 8192 h in rw z
 
   module _ (q : Read) (t : Tells q (firstThree (readJob bs))) where
-    held-read : q .answer ≡ Passed → (readJob bs ≡ reads (jobOf (q .stars))) × (test3 (jobOf (q .stars)) ≡ true)
+    held-read : q .answer ≡ Passed → firstThree (readJob bs) ≡ reads (jobOf (q .stars))
     unfolding outcome said
-    held-read d = three-passed (readJob bs) (jobOf (q .stars)) (sym (t .says) ∙ rw d)
+    held-read d = sym (t .says) ∙ rw d
 
     pub held-passes : q .answer ≡ Passed → (test2 (length (jobOf (q .stars))) ≡ true) × (test3 (jobOf (q .stars)) ≡ true)
-    held-passes d = (read-test2 bs (jobOf (q .stars)) (held-read d .0), held-read d .1)
+    held-passes d =
+        let (r, t3) = three-passed (readJob bs) (jobOf (q .stars)) (held-read d) in
+        (read-test2 bs (jobOf (q .stars)) r, t3)
 
     module _ (l : length bs ≤ 8192) where
-      short-text : textOf bs ≡ textAnswer (texted (readJob bs))
+      short-text : textOf bs ≡ textAnswer (texted (firstThree (readJob bs)))
       unfolding textOf
       short-text = let z : leb (length bs) 8192 ≡ true = le-leb (length bs) 8192 l in rw z
 
       pub passed-text : q .answer ≡ Passed → textOf bs ≡ textAnswer (passing (sided (jobOf (q .stars))) 4 (reads (jobOf (q .stars))))
-      unfolding texted passing
-      passed-text d = rw (short-text, held-read d .0, held-read d .1)
+      unfolding texted
+      passed-text d = rw (short-text, held-read d)
 
       pub refused-text : (k : ℕ) → q .answer ≡ Refused k → textOf bs ≡ refusedWord ++ line (k ∷ [])
-      unfolding textAnswer outcome said
-      refused-text k d = rw (short-text, three-refused (readJob bs) k (sym (t .says) ∙ rw d))
+      unfolding texted textAnswer outcome said
+      refused-text k d =
+          let e : firstThree (readJob bs) ≡ fails k = sym (t .says) ∙ rw d in
+          rw (short-text, e)
 
 -- what is printed for some text
 module _ (t : List ℕ) where

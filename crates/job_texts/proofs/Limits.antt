@@ -2,17 +2,18 @@
 use Prim.Native.Nat.{ℕ, zero, suc, _+_, _-_, _≤_}
 use mathlib.Core.Path.{_≡_, refl}
 use mathlib.Core.Bool.{Bool, true, false, cond, _&&_}
+use mathlib.Core.Option.{Option, none, some}
 use mathlib.Core.List.{List, [], _∷_}
 use native.Mathlib.Omega.{arith}
-use borrow.Author.Tests.{leb-true}
+use borrow.Author.Tests.{leb-true, lt-ltb}
 use lib.Dec.{leb, ltb, eqb}
 use lib.ListN.{length, drop}
-use Rattle.floor.specs.Lists.{all, sum}
+use Rattle.floor.specs.Lists.{all, sum, sameNumbers}
 use Rattle.floor.specs.Lists.Laws.{and-right}
 use Rattle.floor.specs.Jobs.{Entry, Star, pairsIn, test2}
-use Rattle.floor.specs.JobTexts.{word, next, kindOfWord, vertexOfWord, numberOf, skip, uncommented, nothing, followed, behindContact, contacts}
-use Rattle.floor.specs.JobTexts.{anyContacts, behindNumber, roomLine, longer, lines, behindStar, taken, readLines, readText}
-use Rattle.floor.specs.JobTexts.{roomNumber, colon, side, neighbour, comma, noRoom, Line, lacks, star, TextRead, wrongLine, aJob}
+use Rattle.floor.specs.JobTexts.{frameWords, word, next, numberOf, placeOf, kindOfWord, aByte, orElse, vertexOfWord, says, skip, uncommented, nothing}
+use Rattle.floor.specs.JobTexts.{followed, behindContact, contact, contacts, anyContacts, behindNumber, roomLine, longer, lines, behindStar, taken, readLines, readText}
+use Rattle.floor.specs.JobTexts.{roomNumber, colon, comma, noRoom, Line, lacks, star, TextRead, wrongLine, aJob}
 use Rattle.stars.specs.Pairs.{pair}
 use Rattle.stars.proofs.Back.{small}
 use Rattle.job_texts.specs.Reads.{numberIn}
@@ -36,22 +37,53 @@ few-followed left (b ∷ u) l p = go (eqb b 44)
     go true = p
     go false = omega arith
 
-few-contacts : (left : ℕ) (t : List ℕ) → Few left (contacts left t)
-unfolding contacts numberIn
-few-contacts zero t = omega arith
-few-contacts (suc left) t = go (ltb (kindOfWord (word t)) 4) (ltb (vertexOfWord (word (next t))) 256) refl (few-contacts left (skip (drop 1 (next (next t)))))
-  where
-    e : Entry
-    e = pair (vertexOfWord (word (next t))) (kindOfWord (word t))
+-- what is said, if anything, is a byte
+abbrev ByteSaid : Option ℕ → Type 0
+ByteSaid none = Unit {0}
+ByteSaid (some n) = ltb n 256 ≡ true
 
+byte-said : (x : Option ℕ) → ByteSaid (aByte x)
+unfolding aByte
+byte-said none = tt
+byte-said (some n) = go (ltb n 256) refl
+  where
+    go : (b : Bool) → ltb n 256 ≡ b → ByteSaid (cond b (some n) none)
+    go true t = t
+    go false t = tt
+
+place-said : (i : ℕ) (w : List ℕ) (xs : List (List ℕ)) → i + length xs ≤ 256 → ByteSaid (placeOf i w xs)
+unfolding placeOf
+place-said i w [] h = tt
+place-said i w (x ∷ xs) h = go (sameNumbers w x) (place-said (suc i) w xs (omega arith))
+  where
+    go : (b : Bool) → ByteSaid (placeOf (suc i) w xs) → ByteSaid (cond b (some i) (placeOf (suc i) w xs))
+    go true p = lt-ltb i 256 (omega arith)
+    go false p = p
+
+vertex-said : (w : List ℕ) → ByteSaid (vertexOfWord w)
+unfolding vertexOfWord frameWords orElse
+vertex-said w = go (placeOf 0 w frameWords) (place-said 0 w frameWords (omega arith))
+  where
+    go : (x : Option ℕ) → ByteSaid x → ByteSaid (orElse x (aByte (numberOf w)))
+    go none p = byte-said (numberOf w)
+    go (some n) p = p
+
+few-contacts : (left : ℕ) (t : List ℕ) → Few left (contacts left t)
+unfolding contacts contact numberIn
+few-contacts zero t = omega arith
+few-contacts (suc left) t =
+    go (kindOfWord (word t)) (vertexOfWord (word (next t))) (vertex-said (word (next t))) (few-contacts left (skip (drop 1 (next (next t)))))
+  where
     u : List ℕ
     u = next (next t)
 
-    go : (a b : Bool) → ltb (vertexOfWord (word (next t))) 256 ≡ b → Few left (contacts left (skip (drop 1 u)))
-        → Few (suc left) (cond a (cond b (behindContact e (followed u (contacts left (skip (drop 1 u))))) (lacks neighbour)) (lacks side))
-    go true true q p = few-behind left e (followed u (contacts left (skip (drop 1 u)))) q (few-followed left u (contacts left (skip (drop 1 u))) p)
-    go true false q p = omega arith
-    go false b q p = omega arith
+    rest : Line
+    rest = contacts left (skip (drop 1 u))
+
+    go : (k v : Option ℕ) → ByteSaid v → Few left rest → Few (suc left) (contact k v (λ e. behindContact e (followed u rest)))
+    go none v q p = omega arith
+    go (some k) none q p = omega arith
+    go (some k) (some v) q p = few-behind left (pair v k) (followed u rest) q (few-followed left u rest p)
 
 few-any : (left : ℕ) (t : List ℕ) → Few left (anyContacts left t)
 unfolding anyContacts all
@@ -74,7 +106,7 @@ Fits left r (star s) = (r ≤ 63) × (length s ≤ left) × (small s ≡ true)
 
 line-fits : (left r : ℕ) (t : List ℕ) → r ≤ 64 → Fits left r (roomLine left r t)
 unfolding roomLine test2 numberIn
-line-fits left r t h = go (leb 1 (r - 3) && leb (r - 3) 60) refl (eqb (numberOf (word t)) r) (behindNumber left (next t)) (few-number left (next t))
+line-fits left r t h = go (leb 1 (r - 3) && leb (r - 3) 60) refl (says r (numberOf (word t))) (behindNumber left (next t)) (few-number left (next t))
   where
     star-fits : (l : Line) → r - 3 ≤ 60 → Few left l → Fits left r l
     star-fits (lacks x) g p = p

@@ -1,16 +1,14 @@
 -- The contacts of a line, one by one, as the code comes by them. Assumes nothing.
 use Prim.Native.Nat.{ℕ, suc, _+_, _-_, _<_, _≤_}
 use mathlib.Core.Path.{_≡_, refl, sym, _∙_}
-use mathlib.Core.Bool.{Bool, true, false, cond}
+use mathlib.Core.Option.{Option, none, some}
 use mathlib.Core.List.{List}
 use native.Mathlib.Omega.{arith}
 use borrow.Author.Tests.{lt-ltb, le-ltb, eq-eqb, ne-eqb}
-use lib.Dec.{ltb}
 use lib.ListN.{length, getD, drop, drop-of-length-le}
 use lib.Seq.{drop-cons}
 use Rattle.floor.specs.Jobs.{Entry}
-use Rattle.floor.specs.JobTexts.{word, next, kindOfWord, vertexOfWord, skip, followed, behindContact, contacts}
-use Rattle.floor.specs.JobTexts.{side, neighbour, comma, Line, lacks, star}
+use Rattle.floor.specs.JobTexts.{word, next, kindOfWord, vertexOfWord, skip, followed, behindContact, contact, contacts, Line, lacks, star}
 use Rattle.stars.specs.declared.Stars.{Stars}
 use Rattle.stars.specs.Pairs.{pair}
 use Rattle.job_texts.specs.declared.Lack.{Lack}
@@ -19,40 +17,36 @@ use Rattle.job_texts.specs.declared.Verdict.the-variants.{Right, Wrong}
 use Rattle.job_texts.specs.declared.Contact.{Contact}
 use Rattle.job_texts.specs.declared.Contact.the-variants.{Lacks, Stands}
 use Rattle.job_texts.specs.declared.Row.{Row}
-use Rattle.job_texts.specs.Reads.{lackOf, Piece, without, piece, pieceOf, pieceIn, onPiece, Put, bad, good, putEntry, putEntries, putContacts}
+use Rattle.job_texts.specs.Reads.{below, lackOf, pieceFrom, pieceOf, pieceIn, onPiece, Put, bad, good, putEntry, putEntries, putContacts}
 use Rattle.job_texts.specs.Reads.{toldRow, rowOf}
 
 -- one contact
-module _ (s w : List ℕ) (at k : ℕ) (ew : w ≡ word (drop at s)) (ek : k ≡ kindOfWord w) where
+module _ (s w : List ℕ) (at k : ℕ) (ew : w ≡ word (drop at s)) (ek : below 4 k ≡ kindOfWord w) where
   pub no-side : 4 ≤ k → pieceIn (Lacks Side) s ≡ pieceOf (drop at s)
-  unfolding pieceIn pieceOf lackOf
+  unfolding pieceIn pieceOf pieceFrom below lackOf
   no-side h = rw (← ew, ← ek, le-ltb k 4 h)
 
-  module _ (l : k < 4) (m : ℕ) (em : drop m s ≡ next (drop at s)) (x : List ℕ) (v : ℕ) (ex : x ≡ word (drop m s)) (ev : v ≡ vertexOfWord x) where
+  module _ (l : k < 4) (m : ℕ) (em : drop m s ≡ next (drop at s)) (x : List ℕ) (v : ℕ) (ex : x ≡ word (drop m s)) (ev : below 256 v ≡ vertexOfWord x) where
     pub no-neighbour : 256 ≤ v → pieceIn (Lacks Neighbour) s ≡ pieceOf (drop at s)
-    unfolding pieceIn pieceOf lackOf
+    unfolding pieceIn pieceOf pieceFrom below lackOf
     no-neighbour h = rw (← ew, ← ek, lt-ltb k 4 l, ← em, ← ex, ← ev, le-ltb v 256 h)
 
     pub both-stand : v < 256 → (p : ℕ) → drop p s ≡ next (drop m s) → pieceIn (Stands k v p) s ≡ pieceOf (drop at s)
-    unfolding pieceIn pieceOf
+    unfolding pieceIn pieceOf pieceFrom below
     both-stand h p ep = rw (← ew, ← ek, lt-ltb k 4 l, ← em, ← ex, ← ev, lt-ltb v 256 h, ep)
 
 -- the contacts of a line by the first of them
 by-piece : (left : ℕ) (t : List ℕ) → contacts (suc left) t ≡ onPiece (pieceOf t) left
-unfolding contacts pieceOf onPiece
-by-piece left t = go (ltb (kindOfWord (word t)) 4) (ltb (vertexOfWord (word (next t))) 256)
+unfolding contacts contact pieceOf pieceFrom onPiece
+by-piece left t = go (kindOfWord (word t)) (vertexOfWord (word (next t)))
   where
-    e : Entry
-    e = pair (vertexOfWord (word (next t))) (kindOfWord (word t))
-
     u : List ℕ
     u = next (next t)
 
-    go : (a b : Bool) → cond a (cond b (behindContact e (followed u (contacts left (skip (drop 1 u))))) (lacks neighbour)) (lacks side)
-        ≡ onPiece (cond a (cond b (piece e u) (without neighbour)) (without side)) left
-    go true true = refl
-    go true false = refl
-    go false b = refl
+    go : (k v : Option ℕ) → contact k v (λ e. behindContact e (followed u (contacts left (skip (drop 1 u))))) ≡ onPiece (pieceFrom k v u) left
+    go none v = refl
+    go (some k) none = refl
+    go (some k) (some v) = refl
 
 -- a contact put before the others of its line
 put-first : (h : Stars) (k : ℕ) (e : Entry) (l : Line) → putContacts h k (behindContact e l) ≡ putContacts (putEntry h k (e .to) (e .kind)) (k + 1) l

@@ -1,22 +1,24 @@
 -- A room's line, as the code comes by it. Assumes nothing.
 use Prim.Native.Nat.{ℕ, suc, _+_, _-_, _<_, _≤_}
 use mathlib.Core.Path.{_≡_, refl, _∙_, ap}
-use mathlib.Core.Bool.{true, false}
+use mathlib.Core.Bool.{true, false, cond}
 use mathlib.Core.List.{List, [], _∷_, map}
 use native.Mathlib.Omega.{arith}
 use borrow.Author.Tests.{le-leb, lt-leb, eq-eqb, ne-eqb}
-use lib.Dec.{leb}
+use lib.Dec.{eqb}
 use lib.ListN.{length, getD, drop, set, drop-of-length-le}
 use lib.Seq.{sets, drop-cons}
 use Rattle.floor.specs.Jobs.{Star, test2}
-use Rattle.floor.specs.JobTexts.{word, next, numberOf, skip, uncommented, nothing, contacts, anyContacts, behindNumber, roomLine, Line, lacks, star}
+use Rattle.floor.specs.JobTexts.{word, next, numberOf, aByte, skip, uncommented, nothing, contacts, anyContacts, behindNumber, roomLine}
+use Rattle.floor.specs.JobTexts.{roomNumber, Line, lacks, star}
 use Rattle.stars.specs.declared.Stars.{Stars}
 use Rattle.stars.specs.Held.{toOf, kindOf, putStar}
 use Rattle.job_texts.specs.declared.Lack.{Lack}
 use Rattle.job_texts.specs.declared.Lack.the-variants.{RoomNumber, Colon, NoRoom}
 use Rattle.job_texts.specs.declared.Verdict.the-variants.{Right, Wrong}
 use Rattle.job_texts.specs.declared.Row.{Row}
-use Rattle.job_texts.specs.Reads.{lackOf, good, putEntry, putEntries, closeAt, putContacts, closePut, putLine, onLine, toldRow, rowOf}
+use Rattle.job_texts.specs.Reads.{below, lackOf, good, putEntry, putEntries, closeAt, putContacts, closePut, putLine, onLine, toldRow, rowOf}
+use Rattle.job_texts.proofs.Said.{said-number}
 use Rattle.job_texts.proofs.Pieces.{told-wrong, told-right}
 
 -- a star closed
@@ -80,22 +82,22 @@ module _ (s : List ℕ) (h : Stars) (m n : ℕ) (r : Row) (en : n ≡ h .count) 
       let z : 4 + h .count - 3 ≡ n + 1 = omega arith in
       rw (z, le-leb 1 (n + 1) (omega arith), lt-leb (n + 1) 60 (omega arith)) (told-wrong r NoRoom t)
 
-  module _ (l : n < 60) (w : List ℕ) (k : ℕ) (ew : w ≡ word s) (ek : k ≡ numberOf w) where
-    pub other-number : (k ≡ 4 + n → ⊥) → r .verdict ≡ Wrong (RoomNumber (4 + n)) → rowOf r ≡ putLine h m (roomLine (360 - m) (4 + h .count) s)
-    unfolding roomLine test2 putLine lackOf
-    other-number q t =
+  module _ (l : n < 60) (w : List ℕ) (k : ℕ) (ew : w ≡ word s) (ek : below 256 k ≡ aByte (numberOf w)) where
+    in-turn : roomLine (360 - m) (4 + h .count) s ≡ cond (eqb k (4 + n)) (behindNumber (360 - m) (next s)) (lacks (roomNumber (4 + n)))
+    unfolding roomLine test2
+    in-turn =
         let z : 4 + h .count - 3 ≡ n + 1 = omega arith in
         let y : 4 + n ≡ 4 + h .count = omega arith in
-        rw (z, le-leb 1 (n + 1) (omega arith), le-leb (n + 1) 60 (omega arith), ← ew, ← ek, ← y, ne-eqb k (4 + n) q) (told-wrong r (RoomNumber (4 + n)) t)
+        rw (z, le-leb 1 (n + 1) (omega arith), le-leb (n + 1) 60 (omega arith), ← ew, ← y, said-number k (4 + n) (numberOf w) ek (omega arith))
+
+    pub other-number : (k ≡ 4 + n → ⊥) → r .verdict ≡ Wrong (RoomNumber (4 + n)) → rowOf r ≡ putLine h m (roomLine (360 - m) (4 + h .count) s)
+    unfolding putLine lackOf
+    other-number q t = rw (in-turn, ne-eqb k (4 + n) q) (told-wrong r (RoomNumber (4 + n)) t)
 
     pub room-closed : k ≡ 4 + n → (at : ℕ) → drop at s ≡ next s → (q : Row) → rowOf q ≡ putContacts h m (behindNumber (360 - m) (drop at s))
         → rowOf r ≡ closePut (rowOf q) → rowOf r ≡ putLine h m (roomLine (360 - m) (4 + h .count) s)
-    unfolding roomLine test2
     room-closed e at ea q eq er =
-        let z : 4 + h .count - 3 ≡ n + 1 = omega arith in
-        let y : 4 + n ≡ 4 + h .count = omega arith in
-        rw (z, le-leb 1 (n + 1) (omega arith), le-leb (n + 1) 60 (omega arith), ← ew, ← ek, ← y, eq-eqb k (4 + n) e, ← ea)
-        (er ∙ (rw eq (close-contacts h m (behindNumber (360 - m) (drop at s)))))
+        rw (in-turn, eq-eqb k (4 + n) e, ← ea) (er ∙ (rw eq (close-contacts h m (behindNumber (360 - m) (drop at s)))))
 
 no-length : (c : List ℕ) → length c ≡ 0 → nothing c ≡ true
 unfolding nothing

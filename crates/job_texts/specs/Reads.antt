@@ -1,6 +1,7 @@
 -- What comes of reading a text, as the code tells it. Assumes nothing.
 use Prim.Native.Nat.{ℕ, _+_, _-_}
 use mathlib.Core.Bool.{cond}
+use mathlib.Core.Option.{Option, none, some}
 use mathlib.Core.List.{List, [], _∷_}
 use lib.ListN.{length, drop, set}
 use lib.Dec.{ltb}
@@ -18,6 +19,10 @@ use Rattle.job_texts.specs.declared.Contact.{Contact}
 use Rattle.job_texts.specs.declared.Contact.the-variants.{Lacks, Stands}
 use Rattle.job_texts.specs.declared.Row.{Row}
 use Rattle.job_texts.specs.declared.Taken.{Taken}
+
+-- a number below m; any other stands for none
+unfoldable pub below : ℕ → ℕ → Option ℕ
+below m r = cond (ltb r m) (some r) none
 
 -- what a lack says
 unfoldable pub lackOf : Lack → Expected
@@ -46,13 +51,15 @@ pub data Piece : Type 0 where
   without : Expected → Piece
   piece : Entry → List ℕ → Piece
 
+-- a contact by its side and its neighbour, if there are such
+unfoldable pub pieceFrom : Option ℕ → Option ℕ → List ℕ → Piece
+pieceFrom none v u = without side
+pieceFrom (some k) none u = without neighbour
+pieceFrom (some k) (some v) u = piece (pair v k) u
+
 -- the contact in front of a text
 unfoldable pub pieceOf : List ℕ → Piece
-pieceOf t =
-    let k : ℕ = kindOfWord (word t) in
-    let v : ℕ = vertexOfWord (word (next t)) in
-    let u : List ℕ = next (next t) in
-    cond (ltb k 4) (cond (ltb v 256) (piece (pair v k) u) (without neighbour)) (without side)
+pieceOf t = pieceFrom (kindOfWord (word t)) (vertexOfWord (word (next t))) (next (next t))
 
 -- what the code tells of it, by the place of the next thing in the line
 unfoldable pub pieceIn : Contact → List ℕ → Piece

@@ -1,12 +1,14 @@
 // What a word says: a kind, a number or a vertex.
 ghost use mathlib.Core.Path.{_≡_};
-ghost use Prim.Native.Nat.{_≤_};
-ghost use Rattle.floor.specs.JobTexts.{withDigit, numberOf, kindOfWord, vertexOfWord};
+ghost use mathlib.Core.List.{List, _∷_};
+ghost use Prim.Native.Nat.{ℕ, _≤_};
+ghost use Rattle.floor.specs.JobTexts.{digitsOn, numberOf, kindOfWord, aByte, vertexOfWord};
+ghost use Rattle.job_texts.specs.Reads.{below};
 
 // A number with a digit more; 256 for all that is no number below 256.
 fn with_digit(n: usize, b: u8) -> usize
     requires { ⌜ n ≤ 256 ⌝ }
-    ensures { λ r. ⌜ (r ≡ withDigit n b) × (r ≤ 256) ⌝ }
+    ensures { λ r. ⌜ ((t : List ℕ) → aByte (digitsOn r t) ≡ aByte (digitsOn n (b ∷ t))) × (r ≤ 256) ⌝ }
 {
     let digit = fields::wide(b);
     if digit < 48 {
@@ -21,7 +23,7 @@ fn with_digit(n: usize, b: u8) -> usize
 
 // The number that a word says, below 256; else 256.
 pub fn number_of(word: &[u8]) -> usize
-    ensures { λ r. ⌜ (r ≡ numberOf (now (word .entry))) × (r ≤ 256) ⌝ }
+    ensures { λ r. ⌜ (below 256 r ≡ aByte (numberOf (now (word .entry)))) × (r ≤ 256) ⌝ }
 {
     if word.len() == 0 {
         return 256;
@@ -37,7 +39,7 @@ pub fn number_of(word: &[u8]) -> usize
 
 // The kind that a word says, below 4; else 4.
 pub fn kind_of_word(word: &[u8]) -> usize
-    ensures { λ r. ⌜ (r ≡ kindOfWord (now (word .entry))) × (r ≤ 4) ⌝ }
+    ensures { λ r. ⌜ (below 4 r ≡ kindOfWord (now (word .entry))) × (r ≤ 4) ⌝ }
 {
     if fields::same_bytes(word, b"above") {
         return 0;
@@ -56,7 +58,7 @@ pub fn kind_of_word(word: &[u8]) -> usize
 
 // The vertex that a word says, below 256; else 256.
 pub fn vertex_of_word(word: &[u8]) -> usize
-    ensures { λ r. ⌜ (r ≡ vertexOfWord (now (word .entry))) × (r ≤ 256) ⌝ }
+    ensures { λ r. ⌜ (below 256 r ≡ vertexOfWord (now (word .entry))) × (r ≤ 256) ⌝ }
 {
     if fields::same_bytes(word, b"N") {
         return 0;

@@ -2,6 +2,7 @@
 use Prim.Native.Nat.{ℕ, zero, suc, _+_, _-_, _*_, _≤_, _<_}
 use mathlib.Core.Path.{_≡_, refl, sym, ap, _∙_}
 use mathlib.Core.Bool.{Bool, true, false, not, _&&_}
+use mathlib.Core.Option.{Option, none, some}
 use mathlib.Core.List.{List, [], _∷_, _++_, append-nil, append-assoc}
 use lib.ListN.{length, drop, length-append}
 use lib.Dec.{leb, ltb, eqb}
@@ -14,12 +15,11 @@ use Rattle.floor.specs.Quoted.{plain}
 use Rattle.floor.specs.Texts.{digits, decimal}
 use Rattle.floor.specs.Fields.{Bytes, writeField}
 use Rattle.floor.specs.Fields.Laws.{bytes-behind}
-use Rattle.floor.specs.Jobs.{Entry, Star, Job, pairsIn, test2, test3, Reading, fails, reads, readJob, starBytes, writeStars, writeJob}
-use Rattle.floor.specs.Jobs.Facts.{passing-reads}
+use Rattle.floor.specs.Jobs.{Entry, Star, Job, pairsIn, test2, test3, Reading, fails, reads, passing, firstThree, readJob, starBytes, writeStars, writeJob}
 use Rattle.floor.specs.Jobs.Written.{read-test2, write-read-job}
 use Rattle.floor.specs.JobTexts.{sideWords, frameWords, sideWord, vertexWord, contactText, contactsText, roomText, roomsText, jobText}
-use Rattle.floor.specs.JobTexts.{blank, letter, skip, word, behindWord, next, withDigit, digitsOn, numberOf, placeOf, kindOfWord, vertexOfWord}
-use Rattle.floor.specs.JobTexts.{star, behindContact, followed, contacts, anyContacts, behindNumber, roomLine, longer, lines, uncommented, nothing}
+use Rattle.floor.specs.JobTexts.{blank, letter, skip, word, behindWord, next, digit, digitsOn, numberOf, placeOf, kindOfWord, aByte, orElse, vertexOfWord, says}
+use Rattle.floor.specs.JobTexts.{star, behindContact, followed, contact, contacts, anyContacts, behindNumber, roomLine, longer, lines, uncommented, nothing}
 use Rattle.floor.specs.JobTexts.{aJob, behindStar, taken, readLines, readText, sided, texted, textAnswer, textOf, jobAnswer, jobOf}
 
 -- every neighbour is a byte
@@ -37,7 +37,7 @@ unfoldable isWord : ℕ → List ℕ → Bool
 isWord n w = not (nothing w) && all letter w && all inLine w && leb (length w) n
 
 record Word (n : ℕ) (w : List ℕ) : Type 0 where
-  some : nothing w ≡ false
+  filled : nothing w ≡ false
   letters : all letter w ≡ true
   fits : all inLine w ≡ true
   short : length w ≤ n
@@ -48,31 +48,36 @@ is-word n w e =
     let (abc, d) = and-parts _ _ e in
     let (ab, c) = and-parts _ _ abc in
     let (a, b) = and-parts _ _ ab in
-    record { some = not-true (nothing w) a; letters = b; fits = c; short = leb-true (length w) n d }
+    record { filled = not-true (nothing w) a; letters = b; fits = c; short = leb-true (length w) n d }
 
 -- a number that is written as a word and read back
-abbrev tells : ℕ → (ℕ → List ℕ) → (List ℕ → ℕ) → ℕ → Bool
-tells n f g k = isWord n (f k) && eqb (g (f k)) k
+abbrev tells : ℕ → (ℕ → List ℕ) → (List ℕ → Option ℕ) → ℕ → Bool
+tells n f g k = isWord n (f k) && says k (g (f k))
 
-abbrev Told : ℕ → (ℕ → List ℕ) → (List ℕ → ℕ) → ℕ → Type 0
-Told n f g k = Word n (f k) × (g (f k) ≡ k)
+abbrev Told : ℕ → (ℕ → List ℕ) → (List ℕ → Option ℕ) → ℕ → Type 0
+Told n f g k = Word n (f k) × (g (f k) ≡ some k)
 
-told : (n : ℕ) (f : ℕ → List ℕ) (g : List ℕ → ℕ) (m : ℕ) → all (tells n f g) (upFrom 0 m) ≡ true → (k : ℕ) → k < m → Told n f g k
+said : (k : ℕ) (x : Option ℕ) → says k x ≡ true → x ≡ some k
+unfolding says
+said k none e = no-false e
+said k (some n) e = ap some (eqb-true n k e)
+
+told : (n : ℕ) (f : ℕ → List ℕ) (g : List ℕ → Option ℕ) (m : ℕ) → all (tells n f g) (upFrom 0 m) ≡ true → (k : ℕ) → k < m → Told n f g k
 told n f g m h k l =
     let (a, b) = and-parts _ _ (all-mem (tells n f g) (upFrom 0 m) h k (upFrom-mem 0 m k (omega arith) (omega arith))) in
-    (is-word n (f k) a, eqb-true (g (f k)) k b)
+    (is-word n (f k) a, said k (g (f k)) b)
 
 -- THE FOUR SIDES, EVERY VERTEX AND EVERY ROOM, computed
 sides : all (tells 5 sideWord kindOfWord) (upFrom 0 4) ≡ true
-unfolding all upFrom isWord inLine nothing letter sideWord sideWords kindOfWord placeOf sameNumbers plain
+unfolding all upFrom isWord inLine nothing letter sideWord sideWords kindOfWord placeOf sameNumbers plain says
 sides = refl
 
 vertices : all (tells 3 vertexWord vertexOfWord) (upFrom 0 256) ≡ true
-unfolding all upFrom isWord inLine nothing letter vertexWord frameWords vertexOfWord placeOf sameNumbers plain decimal digits numberOf digitsOn withDigit
+unfolding all upFrom isWord inLine nothing letter vertexWord frameWords vertexOfWord placeOf sameNumbers plain decimal digits numberOf digitsOn digit aByte orElse says
 vertices = refl
 
 numbers : all (tells 2 decimal numberOf) (upFrom 0 64) ≡ true
-unfolding all upFrom isWord inLine nothing letter decimal digits numberOf digitsOn withDigit
+unfolding all upFrom isWord inLine nothing letter decimal digits numberOf digitsOn digit says
 numbers = refl
 
 side-told : (k : ℕ) → k < 4 → Told 5 sideWord kindOfWord k
@@ -120,7 +125,7 @@ letter-blank b e = go (decLt b 48)
 -- a word stands where it is, behind a space too
 skip-word : (n : ℕ) (w t : List ℕ) → Word n w → skip (w ++ t) ≡ w ++ t
 unfolding skip nothing all
-skip-word n [] t k = no-false (sym (k .some))
+skip-word n [] t k = no-false (sym (k .filled))
 skip-word n (b ∷ w) t k = rw (letter-blank b (and-left (letter b) (all letter w) (k .letters)))
 
 skip-space : (n : ℕ) (w t : List ℕ) → Word n w → skip (32 ∷ (w ++ t)) ≡ w ++ t
@@ -156,7 +161,7 @@ contact-front e t = ap (λ (l : List ℕ). 32 ∷ l) (append-assoc (sideWord (e 
 -- A CONTACT IS READ, and what follows it is left
 contact-read : (left : ℕ) (e : Entry) (t : List ℕ) → e .kind < 4 → e .to < 256 → stops t ≡ true → skip t ≡ t
     → contacts (suc left) (skip (contactText e ++ t)) ≡ behindContact e (followed t (contacts left (skip (drop 1 t))))
-unfolding contacts
+unfolding contacts contact
 contact-read left e t h l s c =
     let (p, k) = side-told (e .kind) h in
     let (q, v) = vertex-told (e .to) l in
@@ -166,12 +171,10 @@ contact-read left e t h l s c =
       skip-space 5 (sideWord (e .kind)) (32 ∷ u) p,
       word-read (sideWord (e .kind)) (32 ∷ u) (p .letters) (space-stops u),
       k,
-      lt-ltb (e .kind) 4 h,
       next-behind (sideWord (e .kind)) (32 ∷ u) (p .letters) (space-stops u),
       skip-space 3 (vertexWord (e .to)) t q,
       word-read (vertexWord (e .to)) t (q .letters) s,
       v,
-      lt-ltb (e .to) 256 l,
       next-behind (vertexWord (e .to)) t (q .letters) s,
       c,
     )
@@ -203,7 +206,7 @@ some-contacts : (e : Entry) (s : Star) → e .kind < 4 → nothing (skip (contac
 some-contacts e s h =
     let (p, k) = side-told (e .kind) h in
     let t : List ℕ = 32 ∷ (vertexWord (e .to) ++ moreText s) in
-    rw (contacts-front e s, contact-front e (moreText s), skip-space 5 (sideWord (e .kind)) t p) (some-append (sideWord (e .kind)) t (p .some))
+    rw (contacts-front e s, contact-front e (moreText s), skip-space 5 (sideWord (e .kind)) t p) (some-append (sideWord (e .kind)) t (p .filled))
 
 any-some : (left : ℕ) (t : List ℕ) → nothing t ≡ false → anyContacts left t ≡ contacts left t
 unfolding nothing anyContacts
@@ -230,7 +233,7 @@ room-front r s t =
 
 -- A ROOM'S LINE IS READ BACK
 room-read : (left r : ℕ) (s : Star) → 4 ≤ r → r < 64 → length s ≤ left → Writable s → roomLine left r (lineOf r s) ≡ star s
-unfolding roomLine behindNumber test2 letter blank
+unfolding roomLine says behindNumber test2 letter blank
 room-read left r s l h m w =
     let (p, q) = room-told r h in
     let (a, b) = mark-stands 58 (contactsText s) refl refl in
@@ -299,7 +302,7 @@ line-read i r left s ls l h m w =
     rw (
       no-comment (lineOf r s) (line-fits r s h w),
       skip-word 2 (decimal r) (58 ∷ contactsText s) p,
-      some-append (decimal r) (58 ∷ contactsText s) (p .some),
+      some-append (decimal r) (58 ∷ contactsText s) (p .filled),
       room-read left r s l h m w,
     )
 
@@ -411,17 +414,18 @@ unfolding writeJob
 job-small j b = stars-small j (bytes-behind (writeField 1 (length j ∷ [])) (writeStars j) b)
 
 -- what passes as text was read, and passed what is asked of it
-texted-parts : (r : Reading) (j : Job) → texted r ≡ reads j → (r ≡ reads j) × (test3 j ≡ true) × (sided j ≡ true)
-unfolding texted
+texted-parts : (r : Reading) (j : Job) → texted (firstThree r) ≡ reads j → (r ≡ reads j) × (test3 j ≡ true) × (sided j ≡ true)
+unfolding texted firstThree passing
 texted-parts (fails k) j e = let z : _≡_ {A = ℕ} 0 1 = cc in absurd (omega arith)
-texted-parts (reads i) j e =
-    let (t, f) = passing-reads (test3 i) 3 _ j e in
-    let (s, g) = passing-reads (sided i) 4 _ j f in
-    let x : i ≡ j = cc in
-    (g, rw x at t, rw x at s)
+texted-parts (reads i) j e = go (test3 i) refl (sided i) refl e
+  where
+    go : (a : Bool) → test3 i ≡ a → (b : Bool) → sided i ≡ b → texted (passing a 3 (reads i)) ≡ reads j → (reads i ≡ reads j) × (test3 j ≡ true) × (sided j ≡ true)
+    go true p true q f = let g : reads i ≡ reads j = rw q at f in let x : i ≡ j = cc in (g, rw x at p, rw x at q)
+    go true p false q f = let g : fails 4 ≡ reads j = rw q at f in let z : _≡_ {A = ℕ} 0 1 = cc in absurd (omega arith)
+    go false p b q f = let z : _≡_ {A = ℕ} 0 1 = cc in absurd (omega arith)
 
 -- THERE AND BACK: the bytes of a job whose text can be written, written as text and read, are the very bytes
-pub there-and-back : (bs : List ℕ) (j : Job) → Bytes bs → leb (length bs) 8192 ≡ true → texted (readJob bs) ≡ reads j → jobOf (textOf bs) ≡ bs
+pub there-and-back : (bs : List ℕ) (j : Job) → Bytes bs → leb (length bs) 8192 ≡ true → texted (firstThree (readJob bs)) ≡ reads j → jobOf (textOf bs) ≡ bs
 unfolding textOf textAnswer jobOf jobAnswer
 there-and-back bs j ok short e =
     let (r, t3, s) = texted-parts (readJob bs) j e in

@@ -10,8 +10,8 @@ use Rattle.floor.specs.Fields.{readField, restOf}
 use Rattle.floor.specs.Texts.{digits, decimal}
 use Rattle.floor.specs.Examples.{jobF}
 use Rattle.floor.specs.JobTexts.{sideWords, frameWords, sideWord, vertexWord, contactText, contactsText, roomText, roomsText, jobText}
-use Rattle.floor.specs.JobTexts.{blank, letter, skip, word, behindWord, next, withDigit, digitsOn, numberOf, placeOf, kindOfWord, vertexOfWord}
-use Rattle.floor.specs.JobTexts.{roomNumber, colon, side, neighbour, comma, Line, behindContact, followed, contacts, anyContacts}
+use Rattle.floor.specs.JobTexts.{blank, letter, skip, word, behindWord, next, digit, digitsOn, numberOf, placeOf, kindOfWord, aByte, orElse, vertexOfWord, says}
+use Rattle.floor.specs.JobTexts.{roomNumber, colon, side, neighbour, comma, Line, behindContact, followed, contact, contacts, anyContacts}
 use Rattle.floor.specs.JobTexts.{behindNumber, roomLine, longer, lines, uncommented, nothing, TextRead, wrongLine, aJob, behindStar, taken, readLines, readText}
 
 -- F of document 01, as text
@@ -34,7 +34,7 @@ pub texts-read :
     × (written (readText (plain textF)) ≡ plain textF)
     × (readText (plain "# the cage\r\n\n  4 :above N,left W ,\tbelow  S, right E # one room") ≡ readText (plain "4: above 0, left 1, below 2, right 003"))
     × (readText (plain "4:\n") ≡ aJob ([] ∷ []))
-unfolding textF held written contactText contactsText roomText roomsText jobText sideWord vertexWord jobF readJob readFirst readRooms readRest readStars starThen entries test2 readField restOf sameNumbers plain digits decimal sideWords frameWords blank letter skip word behindWord next withDigit digitsOn numberOf placeOf kindOfWord vertexOfWord behindContact followed contacts anyContacts behindNumber roomLine longer lines uncommented nothing behindStar taken readLines readText
+unfolding textF held written contactText contactsText roomText roomsText jobText sideWord vertexWord jobF readJob readFirst readRooms readRest readStars starThen entries test2 readField restOf sameNumbers plain digits decimal sideWords frameWords blank letter skip word behindWord next digit digitsOn numberOf placeOf kindOfWord aByte orElse vertexOfWord says behindContact followed contact contacts anyContacts behindNumber roomLine longer lines uncommented nothing behindStar taken readLines readText
 texts-read = (refl, refl, refl, refl)
 
 -- the first wrong line, and what should have stood there
@@ -49,5 +49,5 @@ pub texts-wrong :
     × (readText (plain "4: above, left W") ≡ wrongLine 1 neighbour)
     × (readText (plain "4: above 256") ≡ wrongLine 1 neighbour)
     × (readText (plain "4: above N left W") ≡ wrongLine 1 comma)
-unfolding test2 sameNumbers plain digits decimal sideWords frameWords blank letter skip word behindWord next withDigit digitsOn numberOf placeOf kindOfWord vertexOfWord behindContact followed contacts anyContacts behindNumber roomLine longer lines uncommented nothing behindStar taken readLines readText
+unfolding test2 sameNumbers plain digits decimal sideWords frameWords blank letter skip word behindWord next digit digitsOn numberOf placeOf kindOfWord aByte orElse vertexOfWord says behindContact followed contact contacts anyContacts behindNumber roomLine longer lines uncommented nothing behindStar taken readLines readText
 texts-wrong = (refl, refl, refl, refl, refl, refl, refl, refl, refl, refl)

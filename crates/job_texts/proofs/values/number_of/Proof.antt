@@ -2,14 +2,14 @@ use Prim.Native.Nat.{_-_, _≤_}
 use mathlib.Core.Path.{_≡_}
 use lib.ListN.{length, drop}
 use native.Mathlib.Omega.{arith}
-use Rattle.floor.specs.JobTexts.{digitsOn, numberOf}
+use Rattle.floor.specs.JobTexts.{digitsOn, numberOf, aByte}
 use Rattle.job_texts.proofs.Said.{no-number, number-first, number-next, number-done}
 use borrow.Author.Needs.{needs}
 use Rattle.job_texts.proofs.values.number_of.Statement.{statement}
 use Rattle.job_texts.proofs.values.number_of.Tie as tie
 
 abbrev Inv-loop : tie.InvT-loop
-Inv-loop word n₀ i₀ n i = (n ≤ 256) × (digitsOn n (drop i word) ≡ numberOf word)
+Inv-loop word n₀ i₀ n i = (n ≤ 256) × (aByte (digitsOn n (drop i word)) ≡ aByte (numberOf word))
 
 abbrev μ-loop : tie.MeasureT-loop
 μ-loop word n₀ i₀ n i = length word - i
