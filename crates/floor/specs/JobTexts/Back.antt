@@ -16,7 +16,7 @@ use Rattle.floor.specs.Texts.{digits, decimal}
 use Rattle.floor.specs.Fields.{Bytes, writeField}
 use Rattle.floor.specs.Fields.Laws.{bytes-behind}
 use Rattle.floor.specs.Jobs.{Entry, Star, Job, pairsIn, test2, test3, Reading, fails, reads, passing, firstThree, readJob, starBytes, writeStars, writeJob}
-use Rattle.floor.specs.Jobs.Written.{read-test2, write-read-job}
+use Rattle.floor.specs.Jobs.Written.{read-test2, length-writeJob, write-read-job}
 use Rattle.floor.specs.JobTexts.{sideWords, frameWords, sideWord, vertexWord, contactText, contactsText, roomText, roomsText, jobText}
 use Rattle.floor.specs.JobTexts.{blank, letter, skip, word, behindWord, next, digit, digitsOn, numberOf, placeOf, kindOfWord, aByte, orElse, vertexOfWord, says}
 use Rattle.floor.specs.JobTexts.{star, behindContact, followed, contact, contacts, anyContacts, behindNumber, roomLine, longer, lines, uncommented, nothing}
@@ -425,12 +425,18 @@ texted-parts (reads i) j e = go (test3 i) refl (sided i) refl e
     go false p b q f = let z : _≡_ {A = ℕ} 0 1 = cc in absurd (omega arith)
 
 -- THERE AND BACK: the bytes of a job whose text can be written, written as text and read, are the very bytes
-pub there-and-back : (bs : List ℕ) (j : Job) → Bytes bs → leb (length bs) 8192 ≡ true → texted (firstThree (readJob bs)) ≡ reads j → jobOf (textOf bs) ≡ bs
+pub there-and-back : (bs : List ℕ) (j : Job) → Bytes bs → texted (firstThree (readJob bs)) ≡ reads j → jobOf (textOf bs) ≡ bs
 unfolding textOf textAnswer jobOf jobAnswer
-there-and-back bs j ok short e =
+there-and-back bs j ok e =
     let (r, t3, s) = texted-parts (readJob bs) j e in
     let w : writeJob j ≡ bs = write-read-job bs j ok r in
     let t2 : test2 (length j) ≡ true = read-test2 bs j r in
     let b : bytesOnly j ≡ true = job-small j (rw w ok) in
+    let (_, rooms, pairs) = limits j t2 t3 in
+    let short : leb (length bs) 8192 ≡ true = le-leb (length bs) 8192 (omega (arith, ap length w, length-writeJob j)) in
     let l : leb (length (jobText j)) 16384 ≡ true = le-leb (length (jobText j)) 16384 (omega (arith, text-length j t2 t3 s b)) in
     rw (short, e, l, text-back j t2 t3 s b) w
+
+-- so is its text: written, read and written again
+pub text-again : (bs : List ℕ) (j : Job) → Bytes bs → texted (firstThree (readJob bs)) ≡ reads j → textOf (jobOf (textOf bs)) ≡ textOf bs
+text-again bs j ok e = ap textOf (there-and-back bs j ok e)
