@@ -8,17 +8,48 @@ use borrow.Author.Tests.{eq-eqb, ne-eqb, not-true, not-false}
 use lib.Dec.{eqb}
 use lib.ListN.{length, getD, List·getD-eq-default}
 use Rattle.floor.specs.Lists.{all, pairwise, sum}
-use Rattle.floor.specs.Jobs.{Entry, Star}
-use Rattle.floor.specs.Plans.{Rect, nowhere, area, rectOf, inside, follows, inOrder, drawable}
+use Rattle.floor.specs.Jobs.{Entry, Star, Job}
+use Rattle.floor.specs.Plans.{Rect, nowhere, area, rectOf, inside, apart, corner, sharesJoined, follows, inOrder, drawable}
 use Rattle.stars.specs.declared.Stars.{Stars}
 use Rattle.stars.specs.Held.{toAt, entryAt, cells, startOf, endOf, heldStar, starsIn, jobOf}
 use Rattle.stars.proofs.Holding.{cells-more, cells-done, held-more, held-done}
 use Rattle.drawing.specs.declared.Rect.{Rect as HeldRect}
 use Rattle.drawing.specs.declared.Plan.{Plan as HeldPlan}
-use Rattle.drawing.specs.declared.Item.{Item}
-use Rattle.drawing.specs.declared.Item.the-variants.{Apart, Joined, NoCorner}
 use Rattle.drawing.specs.Rects.{rectIn, rectAt, rectsIn, planIn}
 use Rattle.drawing.specs.Tests.{insideSheet, pairOk, ordered, starOrdered}
+
+-- in which order tests are asked does not matter
+exchange : (a b c d : Bool) → ((a && b) && (c && d)) ≡ ((a && c) && (b && d))
+exchange false b c d = refl
+exchange true b true d = refl
+exchange true true false d = refl
+exchange true false false d = refl
+
+reorder : (a b c d e f : Bool) → (a && b && c && d && e && f) ≡ (a && c && (b && d && e) && f)
+reorder false b c d e f = refl
+reorder true true true d e f = refl
+reorder true true false d e f = refl
+reorder true false true d e f = refl
+reorder true false false d e f = refl
+
+-- two tests of every member, or of every two, are one
+module _ {A : Type 0} where
+  all-and : (f g : A → Bool) (l : List A) → all (λ x. f x && g x) l ≡ (all f l && all g l)
+  unfolding all
+  all-and f g [] = refl
+  all-and f g (x ∷ xs) = rw (all-and f g xs) (exchange (f x) (g x) (all f xs) (all g xs))
+
+  pairwise-and : (f g : A → A → Bool) (l : List A) → pairwise (λ x y. f x y && g x y) l ≡ (pairwise f l && pairwise g l)
+  unfolding pairwise
+  pairwise-and f g [] = refl
+  pairwise-and f g (x ∷ xs) =
+      rw (all-and (f x) (g x) xs, pairwise-and f g xs) (exchange (all (f x) xs) (all (g x) xs) (pairwise f xs) (pairwise g xs))
+
+-- all that is asked of two rectangles, item by item
+pairs-is : (j : Job) (rs : List Rect)
+    → pairwise (pairOk j) rs ≡ (pairwise apart rs && pairwise (sharesJoined j) rs && pairwise (λ r s. not (corner r s)) rs)
+unfolding pairOk
+pairs-is j rs = rw (← pairwise-and apart (sharesJoined j) rs) (pairwise-and (λ r s. apart r s && sharesJoined j r s) (λ r s. not (corner r s)) rs)
 
 -- the numbers of a rectangle
 pub numbers-at : (l : List ℕ) (v a b c d : ℕ) → a ≡ getD l (4 * v) 0 → b ≡ getD l (4 * v + 1) 0 → c ≡ getD l (4 * v + 2) 0 → d ≡ getD l (4 * v + 3) 0
@@ -186,21 +217,27 @@ module _ (p : HeldPlan) (y : ℕ) (ey : y ≡ p .rooms) where
   rect-of-plan v r e = rw (← ey) e
 
   module _ (h : Stars) (x : ℕ) (ex : x ≡ h .count) where
-    pub pairs-of-plan : (what : Item) (b : Bool) → b ≡ pairwise (pairOk what (starsIn x 0 (h .ends) (h .nbr) (h .kind))) (rectsIn (y + 4) 0 (p .rects))
-        → b ≡ pairwise (pairOk what (jobOf h)) (planIn p .rects)
+    pub pairs-of-plan : (b : Bool) → b ≡ pairwise (pairOk (starsIn x 0 (h .ends) (h .nbr) (h .kind))) (rectsIn (y + 4) 0 (p .rects))
+        → b ≡ pairwise (pairOk (jobOf h)) (planIn p .rects)
     unfolding jobOf planIn
-    pairs-of-plan what b e = rw (← ex, ← ey) e
+    pairs-of-plan b e = rw (← ex, ← ey) e
 
-    -- the drawing test, item by item
+    -- the drawing test, with all that is asked of two rectangles in one place
     drawable-is : drawable (jobOf h) (planIn p)
         ≡ (all (insideSheet (p .width) (p .height)) (planIn p .rects)
-        && pairwise (pairOk Apart (jobOf h)) (planIn p .rects)
         && eqb (sum (map area (planIn p .rects))) (p .width * p .height)
-        && pairwise (pairOk Joined (jobOf h)) (planIn p .rects)
-        && pairwise (pairOk NoCorner (jobOf h)) (planIn p .rects)
+        && pairwise (pairOk (jobOf h)) (planIn p .rects)
         && all (starOrdered (planIn p .rects)) (jobOf h))
-    unfolding drawable inside insideSheet pairOk starOrdered ordered inOrder rectOf planIn
-    drawable-is = refl
+    unfolding drawable inside insideSheet starOrdered ordered inOrder rectOf planIn
+    drawable-is =
+        rw (pairs-is (jobOf h) (planIn p .rects))
+        (reorder
+        (all (insideSheet (p .width) (p .height)) (planIn p .rects))
+        (pairwise apart (planIn p .rects))
+        (eqb (sum (map area (planIn p .rects))) (p .width * p .height))
+        (pairwise (sharesJoined (jobOf h)) (planIn p .rects))
+        (pairwise (λ r s. not (corner r s)) (planIn p .rects))
+        (all (starOrdered (planIn p .rects)) (jobOf h)))
 
     module _ (a : Bool) (ea : a ≡ all (insideSheet (p .width) (p .height)) (rectsIn (y + 4) 0 (p .rects))) where
       inside-is : all (insideSheet (p .width) (p .height)) (planIn p .rects) ≡ a
@@ -210,33 +247,23 @@ module _ (p : HeldPlan) (y : ℕ) (ey : y ≡ p .rooms) where
       pub drawable-outside : not a ≡ true → false ≡ drawable (jobOf h) (planIn p)
       drawable-outside t = rw (drawable-is, inside-is, not-true a t)
 
-      module _ (b : Bool) (ta : not a ≡ false) (eb : b ≡ pairwise (pairOk Apart (jobOf h)) (planIn p .rects)) where
-        pub drawable-over : not b ≡ true → false ≡ drawable (jobOf h) (planIn p)
-        drawable-over t = rw (drawable-is, inside-is, not-false a ta, ← eb, not-true b t)
+      module _ (b : Bool) (ta : not a ≡ false) (eb : b ≡ eqb (sum (map area (rectsIn (y + 4) 0 (p .rects)))) (p .width * p .height)) where
+        areas-is : eqb (sum (map area (planIn p .rects))) (p .width * p .height) ≡ b
+        unfolding planIn
+        areas-is = rw (← ey) (sym eb)
 
-        module _ (c : Bool) (tb : not b ≡ false) (ec : c ≡ eqb (sum (map area (rectsIn (y + 4) 0 (p .rects)))) (p .width * p .height)) where
-          areas-is : eqb (sum (map area (planIn p .rects))) (p .width * p .height) ≡ c
-          unfolding planIn
-          areas-is = rw (← ey) (sym ec)
+        pub drawable-gap : not b ≡ true → false ≡ drawable (jobOf h) (planIn p)
+        drawable-gap t = rw (drawable-is, inside-is, not-false a ta, areas-is, not-true b t)
 
-          pub drawable-gap : not c ≡ true → false ≡ drawable (jobOf h) (planIn p)
-          drawable-gap t = rw (drawable-is, inside-is, not-false a ta, ← eb, not-false b tb, areas-is, not-true c t)
+        module _ (c : Bool) (tb : not b ≡ false) (ec : c ≡ pairwise (pairOk (jobOf h)) (planIn p .rects)) where
+          -- what is left is the order
+          order-left : not c ≡ false → drawable (jobOf h) (planIn p) ≡ all (starOrdered (planIn p .rects)) (jobOf h)
+          order-left tc = rw (drawable-is, inside-is, not-false a ta, areas-is, not-false b tb, ← ec, not-false c tc)
 
-          module _ (d : Bool) (tc : not c ≡ false) (ed : d ≡ pairwise (pairOk Joined (jobOf h)) (planIn p .rects)) where
-            pub drawable-strange : not d ≡ true → false ≡ drawable (jobOf h) (planIn p)
-            drawable-strange t = rw (drawable-is, inside-is, not-false a ta, ← eb, not-false b tb, areas-is, not-false c tc, ← ed, not-true d t)
+          pub drawable-pair : not c ≡ true → false ≡ drawable (jobOf h) (planIn p)
+          drawable-pair t = rw (drawable-is, inside-is, not-false a ta, areas-is, not-false b tb, ← ec, not-true c t)
 
-            module _ (e : Bool) (td : not d ≡ false) (ee : e ≡ pairwise (pairOk NoCorner (jobOf h)) (planIn p .rects)) where
-              -- what is left is the order
-              order-left : not e ≡ false → drawable (jobOf h) (planIn p) ≡ all (starOrdered (planIn p .rects)) (jobOf h)
-              order-left te =
-                  rw (drawable-is, inside-is, not-false a ta, ← eb, not-false b tb, areas-is, not-false c tc, ← ed, not-false d td, ← ee, not-false e te)
-
-              pub drawable-corner : not e ≡ true → false ≡ drawable (jobOf h) (planIn p)
-              drawable-corner t =
-                  rw (drawable-is, inside-is, not-false a ta, ← eb, not-false b tb, areas-is, not-false c tc, ← ed, not-false d td, ← ee, not-true e t)
-
-              pub drawable-order : (f : Bool) → not e ≡ false
-                  → f ≡ all (starOrdered (rectsIn (y + 4) 0 (p .rects))) (starsIn x 0 (h .ends) (h .nbr) (h .kind)) → f ≡ drawable (jobOf h) (planIn p)
-              unfolding planIn jobOf
-              drawable-order f te ef = (rw (ex, ey) at ef) ∙ sym (order-left te)
+          pub drawable-order : (d : Bool) → not c ≡ false
+              → d ≡ all (starOrdered (rectsIn (y + 4) 0 (p .rects))) (starsIn x 0 (h .ends) (h .nbr) (h .kind)) → d ≡ drawable (jobOf h) (planIn p)
+          unfolding planIn jobOf
+          drawable-order d tc ed = (rw (ex, ey) at ed) ∙ sym (order-left tc)

@@ -1,20 +1,19 @@
 -- One rectangle and two, as the code comes by them. Assumes nothing.
 use Prim.Native.Nat.{ℕ, zero, suc, _+_, _-_, _*_, _%_, _<_, _≤_, max, min}
 use mathlib.Core.Path.{_≡_, refl, sym, _∙_}
-use mathlib.Core.Bool.{Bool, true, false, not, _&&_, _||_}
+use mathlib.Core.Bool.{Bool, Bool·beq, true, false, not, _&&_, _||_}
 use native.Mathlib.Nat.{mul-le-mul, lt-of-le-of-lt}
 use native.Mathlib.Omega.{arith}
 use borrow.Author.Tests.{lt-ltb, le-ltb, le-leb, lt-leb, eq-eqb, ne-eqb, eqb-true}
 use lib.Dec.{leb, ltb, eqb, lit<}
 use mir.Syntax.{w64}
 use mir.Val.{Fits}
+use Rattle.floor.specs.Lists.Laws.{no-false}
 use Rattle.floor.specs.Jobs.{Job, starOf, names}
 use Rattle.floor.specs.Plans.{overlap, abut, apart, share, corner, area, nextSide, joined, sharesJoined, follows}
 use Rattle.drawing.specs.declared.Rect.{Rect as HeldRect}
-use Rattle.drawing.specs.declared.Item.{Item}
-use Rattle.drawing.specs.declared.Item.the-variants.{Apart, Joined, NoCorner}
 use Rattle.drawing.specs.Rects.{rectIn}
-use Rattle.drawing.specs.Tests.{insideSheet, pairOk}
+use Rattle.drawing.specs.Tests.{insideSheet, away, pairOk}
 
 -- two stretches
 module _ (a b c d : ℕ) where
@@ -39,6 +38,16 @@ module _ (a b c d : ℕ) where
       go true e q f t = let g : b ≡ c = eqb-true b c e in omega arith
       go false e true f t = let g : d ≡ a = eqb-true d a f in omega arith
       go false e false f t = let z : _≡_ {A = ℕ} 0 1 = cc in absurd (omega arith)
+
+  pub away-over : (n : ℕ) → n ≡ overlap a b c d → 1 ≤ n → false ≡ away a b c d
+  unfolding away
+  away-over n e h = rw (← e, ne-eqb n 0 (λ z. omega arith))
+
+  pub away-free : (n : ℕ) (t : Bool) → n ≡ overlap a b c d → n < 1 → t ≡ abut a b c d → not t ≡ away a b c d
+  unfolding away
+  away-free n t e h f =
+      let z : n ≡ 0 = omega arith in
+      rw (← e, ← f, eq-eqb n 0 z)
 
 -- a product of two numbers of two bytes
 module _ (m n : ℕ) (h : m < 65536) (k : n < 65536) where
@@ -169,26 +178,92 @@ module _ (u v : ℕ) where
     unfolding joined
     joined-last b c d z eb y ec x ed = rw (← ea, z, ← eb, y, ← ec, x) ed
 
--- what is asked of two
-module _ (j : Job) (r s : HeldRect) (b : Bool) where
-  pub joined-free : b ≡ share (rectIn r) (rectIn s) → not b ≡ true → true ≡ sharesJoined j (rectIn r) (rectIn s)
-  unfolding sharesJoined
-  joined-free e t = rw (← e, t)
+and-false : (a : Bool) → false ≡ (a && false)
+and-false true = refl
+and-false false = refl
 
-  pub joined-asked : (w : Bool) → b ≡ share (rectIn r) (rectIn s) → not b ≡ false → w ≡ joined j (r .vertex) (s .vertex)
-      → w ≡ sharesJoined j (rectIn r) (rectIn s)
-  unfolding sharesJoined rectIn
-  joined-asked w e t f = rw (← e, t) f
+and-true : (a : Bool) → a ≡ (a && true)
+and-true true = refl
+and-true false = refl
 
-  module _ (what : Item) where
-    pub ok-apart : what ≡ Apart → b ≡ apart (rectIn r) (rectIn s) → b ≡ pairOk what j (rectIn r) (rectIn s)
-    unfolding pairOk
-    ok-apart e f = rw e f
+-- what is asked of two, by whether they reach over one another by nothing (x across, y upward), touch (a across, b upward) and are joined (w)
+unfoldable asked : (x y a b w : Bool) → Bool
+asked x y a b w = (x || y) && (not ((a && not y) || (b && not x)) || w) && not (a && b)
 
-    pub ok-joined : what ≡ Joined → b ≡ sharesJoined j (rectIn r) (rectIn s) → b ≡ pairOk what j (rectIn r) (rectIn s)
-    unfolding pairOk
-    ok-joined e f = rw e f
+-- nothing, where they lie away from one another
+far-across : (x y a b w : Bool) → (x && not a) ≡ true → true ≡ asked x y a b w
+unfolding asked
+far-across true y false true w e = refl
+far-across true y false false w e = refl
+far-across true y true b w e = no-false e
+far-across false y a b w e = no-false e
 
-    pub ok-corner : what ≡ NoCorner → b ≡ corner (rectIn r) (rectIn s) → not b ≡ pairOk what j (rectIn r) (rectIn s)
-    unfolding pairOk
-    ok-corner e f = rw (e, f)
+far-upward : (x y a b w : Bool) → (y && not b) ≡ true → true ≡ asked x y a b w
+unfolding asked
+far-upward true true true false w e = refl
+far-upward true true false false w e = refl
+far-upward false true true false w e = refl
+far-upward false true false false w e = refl
+far-upward x true a true w e = no-false e
+far-upward x false a b w e = no-false e
+
+-- they fail where both touch, at a corner, and where neither does, over a cell
+near-same : (x y a b w : Bool) → (x && not a) ≡ false → (y && not b) ≡ false → Bool·beq a b ≡ true → false ≡ asked x y a b w
+unfolding asked
+near-same x y true true w e f t = and-false ((x || y) && (not (not y || not x) || w))
+near-same false false false false w e f t = refl
+near-same true y false false w e f t = no-false (sym e)
+near-same false true false false w e f t = no-false (sym f)
+near-same x y true false w e f t = no-false t
+near-same x y false true w e f t = no-false t
+
+-- they share a wall where one touches; what touches reaches over one another by nothing
+near-wall : (x y a b w : Bool) → (a ≡ true → x ≡ true) → (b ≡ true → y ≡ true) → (x && not a) ≡ false → (y && not b) ≡ false → Bool·beq a b ≡ false
+    → w ≡ asked x y a b w
+unfolding asked
+near-wall true false true false w g h e f t = and-true w
+near-wall true true true false w g h e f t = no-false (sym f)
+near-wall false y true false w g h e f t = no-false (g refl)
+near-wall false true false true w g h e f t = and-true w
+near-wall true true false true w g h e f t = no-false (sym e)
+near-wall x false false true w g h e f t = no-false (h refl)
+near-wall x y true true w g h e f t = no-false (sym t)
+near-wall x y false false w g h e f t = no-false (sym t)
+
+-- at least 1 is not nothing
+some-reach : (m : ℕ) → leb 1 m ≡ not (eqb m 0)
+some-reach zero = refl
+some-reach (suc m) = rw (le-leb 1 (suc m) (omega arith), ne-eqb (suc m) 0 (λ e. omega arith))
+
+module _ (j : Job) (r s : HeldRect) where
+  pair-is : pairOk j (rectIn r) (rectIn s)
+      ≡ asked (eqb (across r s) 0) (eqb (upward r s) 0) (beside r s) (above r s) (joined j (r .vertex) (s .vertex))
+  unfolding pairOk apart sharesJoined share corner rectIn asked
+  pair-is = rw (some-reach (across r s), some-reach (upward r s))
+
+  module _ (p : Bool) (ep : p ≡ away (r .x1) (r .x2) (s .x1) (s .x2)) where
+    pub pair-far-across : p ≡ true → true ≡ pairOk j (rectIn r) (rectIn s)
+    unfolding away
+    pair-far-across t = far-across _ _ _ _ _ (sym ep ∙ t) ∙ sym pair-is
+
+    module _ (q : Bool) (tp : p ≡ false) (eq : q ≡ away (r .y1) (r .y2) (s .y1) (s .y2)) where
+      pub pair-far-upward : q ≡ true → true ≡ pairOk j (rectIn r) (rectIn s)
+      unfolding away
+      pair-far-upward t = far-upward _ _ _ _ _ (sym eq ∙ t) ∙ sym pair-is
+
+      module _ (a b : Bool) (tq : q ≡ false) (ea : a ≡ beside r s) (eb : b ≡ above r s) where
+        pub pair-same : Bool·beq a b ≡ true → false ≡ pairOk j (rectIn r) (rectIn s)
+        unfolding away
+        pair-same t = near-same _ _ _ _ _ (sym ep ∙ tp) (sym eq ∙ tq) (rw (ea, eb) at t) ∙ sym pair-is
+
+        pub pair-wall : (w : Bool) → Bool·beq a b ≡ false → w ≡ joined j (r .vertex) (s .vertex) → w ≡ pairOk j (rectIn r) (rectIn s)
+        unfolding away
+        pair-wall w t e =
+            e
+            ∙ near-wall _ _ _ _ _
+            (λ h. eq-eqb (across r s) 0 (abut-reach _ _ _ _ h))
+            (λ h. eq-eqb (upward r s) 0 (abut-reach _ _ _ _ h))
+            (sym ep ∙ tp)
+            (sym eq ∙ tq)
+            (rw (ea, eb) at t)
+            ∙ sym pair-is

@@ -37,13 +37,6 @@ pub struct Plan {
     pub rects: [u16; 256],
 }
 
-// What the drawing test asks of any two rectangles.
-enum Item {
-    Apart,
-    Joined,
-    NoCorner,
-}
-
 // What tests 7 to 9 answer: the job is drawn, or the number of the first that fails.
 pub enum Answer {
     Drawn,
@@ -94,14 +87,13 @@ pub fn rectangle(plan: Plan, v: usize) -> Rect
     held::rect_of(&plan.rects, fields::wide(plan.rooms) + 4, v)
 }
 
-// Whether any two rectangles pass an item.
-fn pairs_ok(what: Item, stars: Stars, plan: Plan) -> bool
-    ensures { λ r. ⌜ r ≡ pairwise (pairOk what (jobOf stars)) (planIn plan .rects) ⌝ }
+// Whether any two rectangles pass what is asked of two.
+fn pairs_ok(stars: Stars, plan: Plan) -> bool
+    ensures { λ r. ⌜ r ≡ pairwise (pairOk (jobOf stars)) (planIn plan .rects) ⌝ }
 {
     let count = fields::wide(stars.count);
     let many = fields::wide(plan.rooms) + 4;
     pairs::all_pairs(
-        what,
         &stars.ends,
         &stars.nbr,
         &stars.kind,
@@ -111,7 +103,7 @@ fn pairs_ok(what: Item, stars: Stars, plan: Plan) -> bool
     )
 }
 
-// The drawing test: each item over the entire plan.
+// The drawing test: each rectangle, the areas, any two rectangles in one pass, and the order of each star.
 pub fn drawable(stars: Stars, plan: Plan) -> bool
     ensures { λ r. ⌜ r ≡ drawable (jobOf stars) (planIn plan) ⌝ }
 {
@@ -120,16 +112,10 @@ pub fn drawable(stars: Stars, plan: Plan) -> bool
     if !sheet::all_inside(&plan.rects, many, plan.width, plan.height) {
         return false;
     }
-    if !pairs_ok(Item::Apart, stars, plan) {
-        return false;
-    }
     if !sheet::areas_fill(&plan.rects, many, plan.width, plan.height) {
         return false;
     }
-    if !pairs_ok(Item::Joined, stars, plan) {
-        return false;
-    }
-    if !pairs_ok(Item::NoCorner, stars, plan) {
+    if !pairs_ok(stars, plan) {
         return false;
     }
     order::all_ordered(

@@ -2,11 +2,10 @@
 ghost use mathlib.Core.Path.{_≡_};
 ghost use Prim.Native.Nat.{_-_, _<_};
 ghost use Rattle.floor.specs.Lists.{all, pairwise};
-ghost use Rattle.floor.specs.Plans.{nextSide, joined, sharesJoined};
+ghost use Rattle.floor.specs.Plans.{nextSide, joined};
 ghost use Rattle.stars.specs.Held.{starsIn};
 ghost use Rattle.drawing.specs.Rects.{rectIn, rectsIn};
 ghost use Rattle.drawing.specs.Tests.{pairOk};
-use crate::Item;
 use crate::Rect;
 
 // Whether v is the next side of the frame after u, counterclockwise.
@@ -42,8 +41,8 @@ fn joined<'a>(
     next_side(v, u)
 }
 
-// Whether two that share a wall are joined.
-fn shares_joined<'a>(
+// Whether two rectangles share no cell, share a wall only where they are joined, and do not meet only at a corner.
+fn pair_ok<'a>(
     ends: &'a [u16],
     nbr: &'a [u16],
     kind: &'a [u8],
@@ -51,36 +50,26 @@ fn shares_joined<'a>(
     r: Rect,
     s: Rect,
 ) -> bool
-    ensures { λ b. ⌜ b ≡ sharesJoined (starsIn count 0 (now (ends .entry)) (now (nbr .entry)) (now (kind .entry))) (rectIn r) (rectIn s) ⌝ }
+    ensures { λ b. ⌜ b ≡ pairOk (starsIn count 0 (now (ends .entry)) (now (nbr .entry)) (now (kind .entry))) (rectIn r) (rectIn s) ⌝ }
 {
-    if !crate::rects::share(r, s) {
+    // Most pairs lie away from one another, and nothing more is asked of them.
+    if crate::rects::away(r.x1, r.x2, s.x1, s.x2) {
         return true;
+    }
+    if crate::rects::away(r.y1, r.y2, s.y1, s.y2) {
+        return true;
+    }
+    let beside = crate::rects::abut(r.x1, r.x2, s.x1, s.x2);
+    let above = crate::rects::abut(r.y1, r.y2, s.y1, s.y2);
+    // Where both touch they meet only at a corner; where neither does they share a cell.
+    if beside == above {
+        return false;
     }
     joined(ends, nbr, kind, count, r.vertex, s.vertex)
 }
 
-// Whether two rectangles pass an item.
-fn pair_ok<'a>(
-    what: Item,
-    ends: &'a [u16],
-    nbr: &'a [u16],
-    kind: &'a [u8],
-    count: usize,
-    r: Rect,
-    s: Rect,
-) -> bool
-    ensures { λ b. ⌜ b ≡ pairOk what (starsIn count 0 (now (ends .entry)) (now (nbr .entry)) (now (kind .entry))) (rectIn r) (rectIn s) ⌝ }
-{
-    match what {
-        Item::Apart => crate::rects::apart(r, s),
-        Item::Joined => shares_joined(ends, nbr, kind, count, r, s),
-        Item::NoCorner => !crate::rects::corner(r, s),
-    }
-}
-
-// Whether a rectangle passes an item with every one from a vertex on.
+// Whether a rectangle does so with every one from a vertex on.
 fn later_ok<'a>(
-    what: Item,
     ends: &'a [u16],
     nbr: &'a [u16],
     kind: &'a [u8],
@@ -91,13 +80,13 @@ fn later_ok<'a>(
     r: Rect,
 ) -> bool
     requires { ⌜ many < 65536 ⌝ }
-    ensures { λ b. ⌜ b ≡ all (pairOk what (starsIn count 0 (now (ends .entry)) (now (nbr .entry)) (now (kind .entry))) (rectIn r))
+    ensures { λ b. ⌜ b ≡ all (pairOk (starsIn count 0 (now (ends .entry)) (now (nbr .entry)) (now (kind .entry))) (rectIn r))
         (rectsIn (many - first) first (now (rects .entry))) ⌝ }
 {
     let mut v = first;
     while v < many {
         let s = crate::held::rect_at(rects, v);
-        if !pair_ok(what, ends, nbr, kind, count, r, s) {
+        if !pair_ok(ends, nbr, kind, count, r, s) {
             return false;
         }
         v += 1;
@@ -105,9 +94,8 @@ fn later_ok<'a>(
     true
 }
 
-// Whether any two of so many rectangles pass an item.
+// Whether any two of so many rectangles do.
 pub fn all_pairs<'a>(
-    what: Item,
     ends: &'a [u16],
     nbr: &'a [u16],
     kind: &'a [u8],
@@ -116,13 +104,13 @@ pub fn all_pairs<'a>(
     many: usize,
 ) -> bool
     requires { ⌜ many < 65536 ⌝ }
-    ensures { λ b. ⌜ b ≡ pairwise (pairOk what (starsIn count 0 (now (ends .entry)) (now (nbr .entry)) (now (kind .entry))))
+    ensures { λ b. ⌜ b ≡ pairwise (pairOk (starsIn count 0 (now (ends .entry)) (now (nbr .entry)) (now (kind .entry))))
         (rectsIn many 0 (now (rects .entry))) ⌝ }
 {
     let mut v: usize = 0;
     while v < many {
         let r = crate::held::rect_at(rects, v);
-        if !later_ok(what, ends, nbr, kind, count, rects, many, v + 1, r) {
+        if !later_ok(ends, nbr, kind, count, rects, many, v + 1, r) {
             return false;
         }
         v += 1;

@@ -3,7 +3,7 @@ ghost use mathlib.Core.Path.{_≡_};
 ghost use Prim.Native.Nat.{_-_, _<_, max, min};
 ghost use Rattle.floor.specs.Plans.{overlap, abut, apart, area, share, corner, follows};
 ghost use Rattle.drawing.specs.Rects.{rectIn};
-ghost use Rattle.drawing.specs.Tests.{insideSheet};
+ghost use Rattle.drawing.specs.Tests.{insideSheet, away};
 use crate::Rect;
 
 // The larger of two numbers.
@@ -38,13 +38,23 @@ fn overlap(a: u16, b: u16, c: u16, d: u16) -> u16
 }
 
 // Whether the stretches touch end to end.
-fn abut(a: u16, b: u16, c: u16, d: u16) -> bool
+pub(crate) fn abut(a: u16, b: u16, c: u16, d: u16) -> bool
     ensures { λ r. ⌜ r ≡ abut a b c d ⌝ }
 {
     if b == c {
         return true;
     }
     d == a
+}
+
+// Whether the stretches neither reach over one another nor touch.
+pub(crate) fn away(a: u16, b: u16, c: u16, d: u16) -> bool
+    ensures { λ r. ⌜ r ≡ away a b c d ⌝ }
+{
+    if 1 <= overlap(a, b, c, d) {
+        return false;
+    }
+    !abut(a, b, c, d)
 }
 
 // Whether two rectangles share no cell.

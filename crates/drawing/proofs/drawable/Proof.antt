@@ -1,4 +1,4 @@
-use Rattle.drawing.proofs.Asking.{drawable-outside, drawable-over, drawable-gap, drawable-strange, drawable-corner, drawable-order}
+use Rattle.drawing.proofs.Asking.{drawable-outside, drawable-gap, drawable-pair, drawable-order}
 use borrow.Author.Needs.{needs}
 use Rattle.drawing.proofs.drawable.Statement.{statement}
 use Rattle.drawing.proofs.drawable.Tie as tie
@@ -18,35 +18,23 @@ all-inside-requires c κs = search needs
 returns : tie.Need-returns
 returns c = search (drawable-outside, needs)
 
-pairs-ok-requires : tie.Need-pairs-ok-requires
-pairs-ok-requires c κs = search needs
-
-returns-2 : tie.Need-returns-2
-returns-2 c = search (drawable-over, needs)
-
 areas-fill-requires : tie.Need-areas-fill-requires
 areas-fill-requires c κs = search needs
 
+returns-2 : tie.Need-returns-2
+returns-2 c = search (drawable-gap, needs)
+
+pairs-ok-requires : tie.Need-pairs-ok-requires
+pairs-ok-requires c κs = search needs
+
 returns-3 : tie.Need-returns-3
-returns-3 c = search (drawable-gap, needs)
-
-pairs-ok-requires-2 : tie.Need-pairs-ok-requires-2
-pairs-ok-requires-2 c κs = search needs
-
-returns-4 : tie.Need-returns-4
-returns-4 c = search (drawable-strange, needs)
-
-pairs-ok-requires-3 : tie.Need-pairs-ok-requires-3
-pairs-ok-requires-3 c κs = search needs
-
-returns-5 : tie.Need-returns-5
-returns-5 c = search (drawable-corner, needs)
+returns-3 c = search (drawable-pair, needs)
 
 all-ordered-requires : tie.Need-all-ordered-requires
 all-ordered-requires c κs = search needs
 
-returns-6 : tie.Need-returns-6
-returns-6 c = search (drawable-order, needs)
+returns-4 : tie.Need-returns-4
+returns-4 c = search (drawable-order, needs)
 
 pub drawable-spec : {M : Type 1} → statement M
 drawable-spec =
@@ -57,13 +45,9 @@ drawable-spec =
     add-many
     all-inside-requires
     returns
-    pairs-ok-requires
-    returns-2
     areas-fill-requires
+    returns-2
+    pairs-ok-requires
     returns-3
-    pairs-ok-requires-2
-    returns-4
-    pairs-ok-requires-3
-    returns-5
     all-ordered-requires
-    returns-6)
+    returns-4)

@@ -11,12 +11,12 @@ use Rattle.drawing.proofs.pairs.all_pairs.Statement.{statement}
 use Rattle.drawing.proofs.pairs.all_pairs.Tie as tie
 
 abbrev Inv-loop : tie.InvT-loop
-Inv-loop what ends nbr kind count rects many v₀ v =
-    pairwise (pairOk what (starsIn count 0 ends nbr kind)) (rectsIn (many - v) v rects)
-    ≡ pairwise (pairOk what (starsIn count 0 ends nbr kind)) (rectsIn many 0 rects)
+Inv-loop ends nbr kind count rects many v₀ v =
+    pairwise (pairOk (starsIn count 0 ends nbr kind)) (rectsIn (many - v) v rects)
+    ≡ pairwise (pairOk (starsIn count 0 ends nbr kind)) (rectsIn many 0 rects)
 
 abbrev μ-loop : tie.MeasureT-loop
-μ-loop what ends nbr kind count rects many v₀ v = many - v
+μ-loop ends nbr kind count rects many v₀ v = many - v
 
 loop-holds : tie.Need-loop-holds Inv-loop μ-loop
 loop-holds c = rw sub-zero

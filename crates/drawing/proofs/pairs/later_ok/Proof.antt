@@ -10,12 +10,12 @@ use Rattle.drawing.proofs.pairs.later_ok.Statement.{statement}
 use Rattle.drawing.proofs.pairs.later_ok.Tie as tie
 
 abbrev Inv-loop : tie.InvT-loop
-Inv-loop what ends nbr kind count rects many first r v₀ v =
-    all (pairOk what (starsIn count 0 ends nbr kind) (rectIn r)) (rectsIn (many - v) v rects)
-    ≡ all (pairOk what (starsIn count 0 ends nbr kind) (rectIn r)) (rectsIn (many - first) first rects)
+Inv-loop ends nbr kind count rects many first r v₀ v =
+    all (pairOk (starsIn count 0 ends nbr kind) (rectIn r)) (rectsIn (many - v) v rects)
+    ≡ all (pairOk (starsIn count 0 ends nbr kind) (rectIn r)) (rectsIn (many - first) first rects)
 
 abbrev μ-loop : tie.MeasureT-loop
-μ-loop what ends nbr kind count rects many first r v₀ v = many - v
+μ-loop ends nbr kind count rects many first r v₀ v = many - v
 
 loop-holds : tie.Need-loop-holds Inv-loop μ-loop
 loop-holds c = search needs

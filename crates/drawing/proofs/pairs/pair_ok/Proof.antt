@@ -1,45 +1,45 @@
-use Rattle.drawing.proofs.Two.{ok-apart, ok-joined, ok-corner}
+use Rattle.drawing.proofs.Two.{pair-far-across, pair-far-upward, pair-same, pair-wall}
 use borrow.Author.Needs.{needs}
 use Rattle.drawing.proofs.pairs.pair_ok.Statement.{statement}
 use Rattle.drawing.proofs.pairs.pair_ok.Tie as tie
 
-enum-told : tie.Need-enum-told
-enum-told c = search needs
-
-apart-requires : tie.Need-apart-requires
-apart-requires c κs = search needs
-
-enum-told-2 : tie.Need-enum-told-2
-enum-told-2 c = search needs
-
-shares-joined-requires : tie.Need-shares-joined-requires
-shares-joined-requires c κs = search needs
-
-enum-told-3 : tie.Need-enum-told-3
-enum-told-3 c = search needs
-
-corner-requires : tie.Need-corner-requires
-corner-requires c κs = search needs
+away-requires : tie.Need-away-requires
+away-requires c κs = search needs
 
 returns : tie.Need-returns
-returns c = search (ok-apart, needs)
+returns c = search (pair-far-across, needs)
+
+away-requires-2 : tie.Need-away-requires-2
+away-requires-2 c κs = search needs
 
 returns-2 : tie.Need-returns-2
-returns-2 c = search (ok-joined, needs)
+returns-2 c = search (pair-far-upward, needs)
+
+abut-requires : tie.Need-abut-requires
+abut-requires c κs = search needs
+
+abut-requires-2 : tie.Need-abut-requires-2
+abut-requires-2 c κs = search needs
 
 returns-3 : tie.Need-returns-3
-returns-3 c = search (ok-corner, needs)
+returns-3 c = search (pair-same, needs)
+
+joined-requires : tie.Need-joined-requires
+joined-requires c κs = search needs
+
+returns-4 : tie.Need-returns-4
+returns-4 c = search (pair-wall, needs)
 
 pub pair-ok-spec : {M : Type 1} → statement M
 pair-ok-spec =
     tie.close
     (tie.spec
-    enum-told
-    apart-requires
-    enum-told-2
-    shares-joined-requires
-    enum-told-3
-    corner-requires
+    away-requires
     returns
+    away-requires-2
     returns-2
-    returns-3)
+    abut-requires
+    abut-requires-2
+    returns-3
+    joined-requires
+    returns-4)
