@@ -1,5 +1,5 @@
 // Does one thing to a job many times over, so that it can be timed, and prints the sum of what came of it.
-// On standard input: n to number its walls, l to load it, t to turn a contact of it; 0 to 9, the rounds as a power of ten;
+// On standard input: n to number its walls, l to load it, t to turn a contact of it, q to ask of it; 0 to 9, the rounds as a power of ten;
 // the contact's two rooms, a byte each; then the job.
 use board::Board;
 use board::Reply;
@@ -49,7 +49,12 @@ fn total(stars: Stars, rounds: u64) -> u64 {
     let mut sum: u64 = 0;
     let mut left = rounds;
     while 0 < left {
-        let walls = walls::walls_of(stars);
+        let walls = walls::walls_of(
+            &stars.ends,
+            &stars.nbr,
+            &stars.kind,
+            fields::wide(stars.count),
+        );
         sum = std::num::wrapping_add_u64(sum, weight(walls));
         sum = std::num::wrapping_add_u64(sum, circles(walls));
         left -= 1;
@@ -68,12 +73,14 @@ fn numberings(job: &[u8], rounds: u64) -> u64 {
     }
 }
 
-// 1 for what is done, and a thousand times the number of a refusal.
+// 1 for what is done, a thousand times the number of a refusal, where a rectangle ends, 1 for yes.
 fn mark(reply: Reply) -> u64 {
     match reply {
         Reply::Done => 1,
         Reply::Refused(k) => 1000 * (k as u64),
-        _ => 0,
+        Reply::Spans(rect) => rect.x2 as u64,
+        Reply::Says(yes) => yes as u64,
+        Reply::Wrote(_) => 0,
     }
 }
 
@@ -117,6 +124,35 @@ fn turnings(job: &[u8], u: usize, v: usize, rounds: u64) -> u64 {
     turns(held, u, v, rounds)
 }
 
+// One vertex after the other asked for its rectangle, and whether it shares with u, so many times, and the marks added up.
+fn asks(first: Board, u: usize, rounds: u64) -> u64 {
+    let mut sum: u64 = 0;
+    let mut left = rounds;
+    let mut held = first;
+    while 0 < left {
+        let v = (left % 64) as usize;
+        let step = held.rectangle(v);
+        let same = step.board;
+        let rect = step.reply;
+        sum = std::num::wrapping_add_u64(sum, mark(rect));
+        let last = same.shares(u, v);
+        let next = last.board;
+        held = next;
+        let reply = last.reply;
+        sum = std::num::wrapping_add_u64(sum, mark(reply));
+        left -= 1;
+    }
+    sum
+}
+
+// A job loaded once and then asked of.
+fn askings(job: &[u8], u: usize, rounds: u64) -> u64 {
+    let none = board::empty();
+    let step = none.load(job);
+    let held = step.board;
+    asks(held, u, rounds)
+}
+
 // A power of ten.
 fn power(digit: u8) -> u64 {
     match digit {
@@ -139,6 +175,7 @@ fn done(what: u8, rounds: u64, u: usize, v: usize, job: &[u8]) -> u64 {
         b'n' => numberings(job, rounds),
         b'l' => loads(job, rounds),
         b't' => turnings(job, u, v, rounds),
+        b'q' => askings(job, u, rounds),
         _ => 0,
     }
 }

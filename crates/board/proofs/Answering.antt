@@ -5,39 +5,38 @@ use mathlib.Core.Bool.{Bool, true, false, not, _&&_}
 use mathlib.Core.List.{List, []}
 use borrow.Author.Tests.{ne-eqb, eq-eqb, not-true, not-false}
 use lib.Dec.{eqb, leb}
-use lib.ListN.{length}
+use lib.ListN.{length, getD}
 use Rattle.floor.specs.Jobs.{Job, isVertex, fails, reads, readJob, firstSix, writeJob}
 use Rattle.floor.specs.Jobs.Facts.{six-passed, passes-of}
 use Rattle.floor.specs.Jobs.Written.{read-test2}
-use Rattle.floor.specs.Plans.{Plan, Answer, refused, held, drawn, rectOf, share, writePlan, drawRead}
-use Rattle.floor.specs.Turns.{turn}
-use Rattle.floor.specs.Turns.{turning}
-use Rattle.floor.specs.Calls.{load, Board, empty, holding, loads, turns, rectangle, shares, writesJob, writesPlan, refusal, wrote}
-use Rattle.floor.specs.Calls.Bytes.{plan-bytes}
+use Rattle.floor.specs.Plans.{Plan, Answer, refused, held, drawn, nowhere, rectOf, share, writePlan, drawRead}
+use Rattle.floor.specs.Calls.{load, Board, empty, holding, loads, turns, rectangle, shares, writesJob, writesPlan, refusal}
 use Rattle.floor.specs.Calls.{Step, refuse, after, asks, writes, sharing, step}
 use Rattle.fields.specs.declared.Written.{Written}
 use Rattle.fields.specs.declared.Written.the-variants.{Wrote as WroteSo, TooShort}
 use Rattle.fields.specs.Writes.{replied, writing}
 use Rattle.stars.specs.declared.Stars.{Stars}
-use Rattle.stars.specs.Held.{jobOf, noStars, heldOf}
-use Rattle.stars.proofs.Holding.{length-stars}
+use Rattle.stars.specs.Held.{jobIn, jobOf, noStars, toOf, kindOf, heldOf}
+use Rattle.stars.proofs.Holding.{length-stars, job-stars}
 use Rattle.jobs.specs.declared.Read.{Read}
 use Rattle.jobs.specs.declared.Answer.the-variants.{Passed, Refused as Failed}
-use Rattle.jobs.specs.Reads.{said as readSaid, kept as readKept, outcome, Tells as ReadTells}
+use Rattle.jobs.specs.Reads.{said as readSaid, kept as readKept, outcome as readOutcome, Tells as ReadTells}
 use Rattle.drawing.specs.declared.Rect.{Rect as HeldRect}
 use Rattle.drawing.specs.declared.Answer.the-variants.{Drawn, Refused as Undrawn}
 use Rattle.drawing.specs.declared.Plan.{Plan as HeldPlan}
 use Rattle.drawing.specs.declared.Drawing.{Drawing}
-use Rattle.drawing.specs.Rects.{rectIn, planIn, noPlan, heldPlan, inBytes}
+use Rattle.drawing.specs.Rects.{rectIn, rectsIn, planFrom, planIn, noPlan, heldPlan, inBytes}
 use Rattle.drawing.specs.Drawn.{drawnAny, said, kept as planKept, Draws}
-use Rattle.drawing.proofs.Corollaries.{drawn-any, bytes-kept}
+use Rattle.drawing.proofs.Corollaries.{drawn-any, plan-held, rect-held}
+use Rattle.turns.specs.declared.Swing.{Swing}
+use Rattle.turns.specs.declared.Swing.the-variants.{Stops, Swings}
+use Rattle.turns.specs.InPlace.{swings, swingOf, bothPut, swungIn, turnedIn, twoPut, swingSaid}
 use Rattle.board.specs.declared.Board.{Board as HeldBoard}
 use Rattle.board.specs.declared.Planned.{Planned}
 use Rattle.board.specs.declared.Reply.{Reply as Said}
 use Rattle.board.specs.declared.Reply.the-variants.{Refused, Done, Spans, Says, Wrote}
-use Rattle.board.proofs.Standing.{standing}
-use Rattle.board.proofs.Turning.{turned-fits, turn-loads}
-use Rattle.board.specs.Boards.{boardFor, noBoard, asLoaded, boardOf, kept, Plans, turnLoads, fits, replyOf, handed, Tells}
+use Rattle.board.specs.declared.Step.{Step as Handed}
+use Rattle.board.specs.Boards.{boardFor, noBoard, boardOf, kept, Plans, replyOf, handed, Outcome, asRules, staying, stayed, newly, turnedTo, outcome, Tells}
 
 -- nothing is held
 pub none-held : (s : Stars) (p : HeldPlan) → s ≡ noStars → p ≡ noPlan → record { stars = s; plan = p } ≡ noBoard
@@ -53,7 +52,7 @@ refuses r x k e p = record { says = rw (p .0, e); keeps = rw e (p .1) }
 module _ (bs : List ℕ) (r : Read) (t : ReadTells r (firstSix (readJob bs))) where
   -- tests 1 to 6
   pub plan-unread : (q : Planned) (k : ℕ) → r .answer ≡ Failed k → (q .answer ≡ Undrawn k) × (q .board ≡ noBoard) → Plans q (load bs)
-  unfolding load drawRead outcome readSaid
+  unfolding load drawRead readOutcome readSaid
   plan-unread q k e p =
       let f : firstSix (readJob bs) ≡ fails k = sym (rw e at (t .says)) in
       refuses q (load bs) k (ap drawRead f) p
@@ -64,7 +63,7 @@ module _ (bs : List ℕ) (r : Read) (t : ReadTells r (firstSix (readJob bs))) wh
     j = jobOf (r .stars)
 
     six : firstSix (readJob bs) ≡ reads j
-    unfolding outcome readSaid
+    unfolding readOutcome readSaid
     six = sym (rw e at (t .says))
 
     loads-drawn : load bs ≡ drawnAny j
@@ -99,65 +98,75 @@ module _ (bs : List ℕ) (r : Read) (t : ReadTells r (firstSix (readJob bs))) wh
               → _≡_ {A = HeldBoard} (record { stars = s; plan = p }) (record { stars = s′; plan = p′ })
           same-board s s′ p p′ e f = rw (e, f)
 
--- ---- load and turn
+-- ---- refusals
 
--- what is newly held, or the very board
-module _ (b : HeldBoard) (a : Board) (x : Answer) (r : Planned) (t : Plans r x) where
-  after-held : r .answer ≡ Drawn → Tells b (record { board = r .board; reply = Done }) [] (after a x)
-  unfolding after replyOf handed said kept
-  after-held d =
-      let h : x ≡ held (jobOf (r .board .stars)) (planIn (r .board .plan)) = sym (rw d at (t .says)) in
+-- what the very board and a refusal tell, the step that is handed back tells
+pub stays-tells : (r : Handed) (b : HeldBoard) (k : ℕ) (buf : List ℕ) (o : Outcome) → r ≡ stayed b k → Tells (stayed b k) buf o → Tells r buf o
+stays-tells r b k buf o e t = rw e t
+
+-- ---- stars drawn and held
+
+module _ (b : HeldBoard) (s : Stars) (d : Drawing) (q : Draws d (jobOf s) (drawnAny (jobOf s))) where
+  pub drawn-not : (k : ℕ) → d .answer ≡ Undrawn k → Tells (stayed b k) [] (newly b s (drawnAny (jobOf s)))
+  unfolding said newly staying replyOf
+  drawn-not k f =
+      let g : drawnAny (jobOf s) ≡ refused k = sym (rw f at (q .says)) in
+      rw g (record { reply = refl; board = refl; buffer = refl })
+
+  pub drawn-so : d .answer ≡ Drawn → Tells (record { board = record { stars = s; plan = d .plan }; reply = Done }) [] (newly b s (drawnAny (jobOf s)))
+  unfolding said planKept newly replyOf
+  drawn-so f =
+      let g : drawnAny (jobOf s) ≡ held (jobOf s) (planIn (d .plan)) = sym (rw f at (q .says)) in
+      let h : d .plan ≡ heldPlan (planIn (d .plan)) = rw g at (q .keeps) in
+      rw g (record { reply = refl; board = same (d .plan) (heldPlan (planIn (d .plan))) h; buffer = refl })
+    where
+      same : (p p′ : HeldPlan) → p ≡ p′ → _≡_ {A = HeldBoard} (record { stars = s; plan = p }) (record { stars = s; plan = p′ })
+      same p p′ e = rw e
+
+-- ---- load
+
+module _ (b : HeldBoard) (bs : List ℕ) (r : Planned) (t : Plans r (load bs)) where
+  pub load-held : r .answer ≡ Drawn → Tells (record { board = r .board; reply = Done }) [] (outcome b (loads bs))
+  unfolding outcome asRules step after replyOf handed said kept
+  load-held d =
+      let h : load bs ≡ held (jobOf (r .board .stars)) (planIn (r .board .plan)) = sym (rw d at (t .says)) in
       let k : r .board ≡ boardFor (jobOf (r .board .stars)) (planIn (r .board .plan)) = rw h at (t .keeps) in
       rw h (record { reply = refl; board = k; buffer = refl })
 
-  after-refused : (k : ℕ) → r .answer ≡ Undrawn k → Tells b (record { board = b; reply = Refused k }) [] (after a x)
-  unfolding after refuse replyOf handed said
-  after-refused k d =
-      let h : x ≡ refused k = sym (rw d at (t .says)) in
+  pub load-refused : (k : ℕ) → r .answer ≡ Undrawn k → Tells (record { board = b; reply = Refused k }) [] (outcome b (loads bs))
+  unfolding outcome asRules step after refuse replyOf handed said
+  load-refused k d =
+      let h : load bs ≡ refused k = sym (rw d at (t .says)) in
       rw h (record { reply = refl; board = refl; buffer = refl })
 
-module _ (b : HeldBoard) (bs : List ℕ) (r : Planned) (t : Plans r (load bs)) where
-  pub load-held : r .answer ≡ Drawn → Tells b (record { board = r .board; reply = Done }) [] (step (boardOf b) (loads bs))
-  unfolding step
-  load-held d = after-held b (boardOf b) (load bs) r t d
+-- ---- 10: nothing is held
 
-  pub load-refused : (k : ℕ) → r .answer ≡ Undrawn k → Tells b (record { board = b; reply = Refused k }) [] (step (boardOf b) (loads bs))
-  unfolding step
-  load-refused k d = after-refused b (boardOf b) (load bs) r t k d
-
--- ---- questions and writings
-
--- what a refusal tells: the very board, and the buffer as it was
-module _ (b : HeldBoard) (buf : List ℕ) (s : Step) where
-  tells-refusal : (k : ℕ) → s .reply ≡ refusal k → buf ≡ s .buffer → Tells b (record { board = b; reply = Refused k }) buf s
-  unfolding replyOf handed
-  tells-refusal k e f = record { reply = sym e; board = rw e; buffer = f }
-
--- 10: nothing is held
-module _ (b : HeldBoard) (t : Bool) (et : t ≡ asLoaded b) (n : not t ≡ true) where
+module _ (b : HeldBoard) (e : b .stars .count ≡ 0) where
   is-empty : boardOf b ≡ empty
   unfolding boardOf
-  is-empty = rw (← et, not-true t n)
+  is-empty = rw (eq-eqb (b .stars .count) 0 e)
 
-  pub ten-turn : (u v : ℕ) → Tells b (record { board = b; reply = Refused 10 }) [] (step (boardOf b) (turns u v))
-  unfolding step refuse
-  ten-turn u v = rw is-empty (tells-refusal b [] (step empty (turns u v)) 10 refl refl)
+  pub ten-turn : (u v : ℕ) → Tells (record { board = b; reply = Refused 10 }) [] (outcome b (turns u v))
+  unfolding outcome staying replyOf
+  ten-turn u v = rw (eq-eqb (b .stars .count) 0 e) (record { reply = refl; board = refl; buffer = refl })
 
-  pub ten-rectangle : (v : ℕ) → Tells b (record { board = b; reply = Refused 10 }) [] (step (boardOf b) (rectangle v))
-  unfolding step refuse
-  ten-rectangle v = rw is-empty (tells-refusal b [] (step empty (rectangle v)) 10 refl refl)
+  pub ten-rectangle : (v : ℕ) → Tells (record { board = b; reply = Refused 10 }) [] (outcome b (rectangle v))
+  unfolding outcome asRules handed step refuse replyOf
+  ten-rectangle v = rw is-empty (record { reply = refl; board = refl; buffer = refl })
 
-  pub ten-shares : (u v : ℕ) → Tells b (record { board = b; reply = Refused 10 }) [] (step (boardOf b) (shares u v))
-  unfolding step refuse
-  ten-shares u v = rw is-empty (tells-refusal b [] (step empty (shares u v)) 10 refl refl)
+  pub ten-shares : (u v : ℕ) → Tells (record { board = b; reply = Refused 10 }) [] (outcome b (shares u v))
+  unfolding outcome asRules handed step refuse replyOf
+  ten-shares u v = rw is-empty (record { reply = refl; board = refl; buffer = refl })
 
-  pub ten-job : (buf : List ℕ) → Tells b (record { board = b; reply = Refused 10 }) buf (step (boardOf b) (writesJob buf))
-  unfolding step refuse
-  ten-job buf = rw is-empty (tells-refusal b buf (step empty (writesJob buf)) 10 refl refl)
+  pub ten-job : (buf : List ℕ) → Tells (record { board = b; reply = Refused 10 }) buf (outcome b (writesJob buf))
+  unfolding outcome asRules handed step refuse replyOf
+  ten-job buf = rw is-empty (record { reply = refl; board = refl; buffer = refl })
 
-  pub ten-plan : (buf : List ℕ) → Tells b (record { board = b; reply = Refused 10 }) buf (step (boardOf b) (writesPlan buf))
-  unfolding step refuse
-  ten-plan buf = rw is-empty (tells-refusal b buf (step empty (writesPlan buf)) 10 refl refl)
+  pub ten-plan : (buf : List ℕ) → Tells (record { board = b; reply = Refused 10 }) buf (outcome b (writesPlan buf))
+  unfolding outcome asRules handed refuse replyOf
+  ten-plan buf = rw (eq-eqb (b .stars .count) 0 e) (record { reply = refl; board = refl; buffer = refl })
+
+-- ---- a job and a plan are held
 
 count-is : (b : HeldBoard) → b .stars .count ≡ length (jobOf (b .stars))
 unfolding jobOf
@@ -167,8 +176,7 @@ vertex-is : (b : HeldBoard) (v : ℕ) → leb v (b .stars .count + 3) ≡ isVert
 unfolding isVertex
 vertex-is b v = ap (λ (n : ℕ). leb v (n + 3)) (count-is b)
 
--- a job and a plan are held
-module _ (b : HeldBoard) (t : Bool) (et : t ≡ asLoaded b) (n : not t ≡ false) where
+module _ (b : HeldBoard) (n : b .stars .count ≡ 0 → ⊥) where
   -- what is held
   abbrev job : Job
   job = jobOf (b .stars)
@@ -178,52 +186,68 @@ module _ (b : HeldBoard) (t : Bool) (et : t ≡ asLoaded b) (n : not t ≡ false
 
   is-holding : boardOf b ≡ holding job plan
   unfolding boardOf
-  is-holding = rw (← et, not-false t n)
+  is-holding = rw (ne-eqb (b .stars .count) 0 n)
 
-  module _ (u v : ℕ) where
-    -- room for the turned job
-    pub turn-room : fits (turning job u v)
-    turn-room = turned-fits job plan (standing b (sym et ∙ not-false t n)) u v
+  -- a contact of the held stars turned in copies of their neighbours and kinds
+  module _ (u v m : ℕ) (em : m ≡ b .stars .count) (r : Swing) (x y : List ℕ)
+      (t : (swingSaid r ≡ swingOf (jobIn m (b .stars .ends) (b .stars .nbr) (b .stars .kind)) u v)
+      × (x ≡ turnedIn toOf (b .stars .nbr) m (b .stars .ends) (b .stars .nbr) (b .stars .kind) u v)
+      × (y ≡ turnedIn kindOf (b .stars .kind) m (b .stars .ends) (b .stars .nbr) (b .stars .kind) u v)) where
+    so : swingOf job u v ≡ swingSaid r
+    so = rw (← job-stars (b .stars) m em) (sym (t .0))
 
-    module _ (r : Planned) (q : Plans r (turnLoads (turning job u v))) where
-      plans-turn : Plans r (turn job u v)
-      plans-turn = rw (turn-loads job plan (standing b (sym et ∙ not-false t n)) u v) at q
+    pub turn-stops : (k : ℕ) → r ≡ Stops k → Tells (record { board = b; reply = Refused k }) [] (outcome b (turns u v))
+    unfolding outcome turnedTo staying replyOf swingSaid
+    turn-stops k e = rw (ne-eqb (b .stars .count) 0 n, so, e) (record { reply = refl; board = refl; buffer = refl })
 
-      pub answer-turn : r .answer ≡ Drawn
-          → Tells b (record { board = record { stars = r .board .stars; plan = r .board .plan }; reply = Done }) [] (step (boardOf b) (turns u v))
-      unfolding step
-      answer-turn d = rw is-holding (after-held b (holding job plan) (turn job u v) r plans-turn d)
+    -- the stars with it turned
+    abbrev next : Stars
+    next = record { count = b .stars .count; ends = b .stars .ends; nbr = x; kind = y }
 
-      pub refused-turn : (k : ℕ) → r .answer ≡ Undrawn k → Tells b (record { board = b; reply = Refused k }) [] (step (boardOf b) (turns u v))
-      unfolding step
-      refused-turn k d = rw is-holding (after-refused b (holding job plan) (turn job u v) r plans-turn k d)
+    are : (a c k : ℕ) → r ≡ Swings a c k → twoPut (b .stars) a c k ≡ next
+    unfolding twoPut turnedIn swungIn swingSaid
+    are a c k e =
+        let f : swingOf job u v ≡ swings a c k = rw e at so in
+        let g : swingOf (jobIn m (b .stars .ends) (b .stars .nbr) (b .stars .kind)) u v ≡ swings a c k = rw (job-stars (b .stars) m em) f in
+        let p : x ≡ bothPut toOf (b .stars .nbr) (b .stars .ends) (length (b .stars .nbr)) job a c k =
+        rw (← job-stars (b .stars) m em) (rw g at (t .1)) in
+        let q : y ≡ bothPut kindOf (b .stars .kind) (b .stars .ends) (length (b .stars .nbr)) job a c k =
+        rw (← job-stars (b .stars) m em) (rw g at (t .2)) in
+        rw (p, q)
+
+    pub turn-swings : (a c k : ℕ) → r ≡ Swings a c k → (h : Handed) → Tells h [] (newly b next (drawnAny (jobOf next))) → Tells h [] (outcome b (turns u v))
+    unfolding outcome turnedTo swingSaid
+    turn-swings a c k e h q =
+        let f : swingOf job u v ≡ swings a c k = rw e at so in
+        rw (ne-eqb (b .stars .count) 0 n, f, are a c k e) q
 
   module _ (v : ℕ) (w : Bool) (ew : w ≡ leb v (b .stars .count + 3)) where
-    pub thirteen-rectangle : not w ≡ true → Tells b (record { board = b; reply = Refused 13 }) [] (step (boardOf b) (rectangle v))
-    unfolding step asks refuse
+    pub thirteen-rectangle : not w ≡ true → Tells (record { board = b; reply = Refused 13 }) [] (outcome b (rectangle v))
+    unfolding outcome asRules handed step asks refuse replyOf
     thirteen-rectangle m =
         let e : isVertex job v ≡ false = sym (vertex-is b v) ∙ sym ew ∙ not-true w m in
-        rw is-holding (tells-refusal b [] (step (holding job plan) (rectangle v)) 13 (rw e) (rw e))
+        rw (is-holding, e) (record { reply = refl; board = refl; buffer = refl })
 
-    pub answer-rectangle : not w ≡ false → (r : HeldRect) → rectIn r ≡ rectOf plan v
-        → Tells b (record { board = b; reply = Spans r }) [] (step (boardOf b) (rectangle v))
-    unfolding step asks replyOf handed
+    pub answer-rectangle : not w ≡ false → (r : HeldRect) → rectIn r ≡ getD (rectsIn (b .plan .rooms + 4) 0 (b .plan .rects)) v nowhere
+        → Tells (record { board = b; reply = Spans r }) [] (outcome b (rectangle v))
+    unfolding outcome asRules step asks replyOf handed
     answer-rectangle m r f =
         let e : isVertex job v ≡ true = sym (vertex-is b v) ∙ sym ew ∙ not-false w m in
-        rw (is-holding, e) (record { reply = rw f; board = refl; buffer = refl })
+        rw (is-holding, e) (record { reply = rw (f ∙ rect-held (b .plan) v); board = refl; buffer = refl })
 
   module _ (u v : ℕ) (w : Bool) (ew : w ≡ (leb u (b .stars .count + 3) && leb v (b .stars .count + 3))) where
-    pub thirteen-shares : not w ≡ true → Tells b (record { board = b; reply = Refused 13 }) [] (step (boardOf b) (shares u v))
-    unfolding step asks refuse
+    pub thirteen-shares : not w ≡ true → Tells (record { board = b; reply = Refused 13 }) [] (outcome b (shares u v))
+    unfolding outcome asRules handed step asks refuse replyOf
     thirteen-shares m =
         let e : (isVertex job u && isVertex job v) ≡ false = rw (← vertex-is b u, ← vertex-is b v) (sym ew ∙ not-true w m) in
-        rw is-holding (tells-refusal b [] (step (holding job plan) (shares u v)) 13 (rw e) (rw e))
+        rw (is-holding, e) (record { reply = refl; board = refl; buffer = refl })
 
-    pub answer-shares : not w ≡ false → (a : Bool) → a ≡ sharing plan u v → Tells b (record { board = b; reply = Says a }) [] (step (boardOf b) (shares u v))
-    unfolding step asks replyOf handed
+    pub answer-shares : not w ≡ false → (a : Bool) → ((x y : ℕ) → a ≡ sharing (planFrom x y (b .plan .rooms + 4) (b .plan .rects)) u v)
+        → Tells (record { board = b; reply = Says a }) [] (outcome b (shares u v))
+    unfolding outcome asRules step asks replyOf handed
     answer-shares m a f =
         let e : (isVertex job u && isVertex job v) ≡ true = rw (← vertex-is b u, ← vertex-is b v) (sym ew ∙ not-false w m) in
-        rw (is-holding, e) (record { reply = rw f; board = refl; buffer = refl })
+        rw (is-holding, e) (record { reply = rw (rw (plan-held (b .plan)) at (f (b .plan .width) (b .plan .height))); board = refl; buffer = refl })
 
 -- two vertices
 pub one-no : (n u v : ℕ) (a : Bool) → a ≡ leb u (n + 3) → not a ≡ true → false ≡ (leb u (n + 3) && leb v (n + 3))
@@ -232,15 +256,20 @@ one-no n u v a e h = rw (← e, not-true a h)
 pub both-yes : (n u v : ℕ) (a r : Bool) → a ≡ leb u (n + 3) → not a ≡ false → r ≡ leb v (n + 3) → r ≡ (leb u (n + 3) && leb v (n + 3))
 both-yes n u v a r e h f = rw (← e, not-false a h) f
 
--- whether two vertices share
-pub share-twice : (p : Plan) (u v : ℕ) → u ≡ v → false ≡ sharing p u v
-unfolding sharing
-share-twice p u v e = rw (eq-eqb u v e)
+-- whether two vertices share, whatever the sheet
+module _ (l : List ℕ) (rooms u v : ℕ) (w h : ℕ) where
+  -- the plan
+  abbrev on : Plan
+  on = planFrom w h (rooms + 4) l
 
-pub share-two : (p : Plan) (u v : ℕ) (r s : HeldRect) (a : Bool) → (u ≡ v → ⊥) → rectIn r ≡ rectOf p u → rectIn s ≡ rectOf p v
-    → a ≡ share (rectIn r) (rectIn s) → a ≡ sharing p u v
-unfolding sharing
-share-two p u v r s a n er es e = rw (ne-eqb u v n, ← er, ← es) e
+  pub share-twice : u ≡ v → false ≡ sharing on u v
+  unfolding sharing
+  share-twice e = rw (eq-eqb u v e)
+
+  pub share-two : (r s : HeldRect) (a : Bool) → (u ≡ v → ⊥) → rectIn r ≡ getD (rectsIn (rooms + 4) 0 l) u nowhere
+      → rectIn s ≡ getD (rectsIn (rooms + 4) 0 l) v nowhere → a ≡ share (rectIn r) (rectIn s) → a ≡ sharing on u v
+  unfolding sharing rectOf
+  share-two r s a n er es e = rw (ne-eqb u v n, ← er, ← es) e
 
 -- what a writing answers
 pub reply-wrote : (w : Written) (n : ℕ) → w ≡ WroteSo n → replyOf (Wrote n) ≡ replied w
@@ -252,22 +281,35 @@ unfolding replyOf replied
 reply-short w e = rw e
 
 writes-tells : (b : HeldBoard) (c : Board) (t : Bool) (bs buf x : List ℕ) (q : Said) → replyOf q ≡ writes empty t bs buf .reply
-    → x ≡ writes empty t bs buf .buffer → Tells b (record { board = b; reply = q }) x (writes c t bs buf)
-unfolding writes refuse handed
+    → x ≡ writes empty t bs buf .buffer → Tells (record { board = b; reply = q }) x (asRules b (writes c t bs buf))
+unfolding asRules writes refuse handed
 writes-tells b c true bs buf x q e f = record { reply = e; board = refl; buffer = f }
 writes-tells b c false bs buf x q e f = record { reply = e; board = refl; buffer = f }
 
-module _ (b : HeldBoard) (t : Bool) (et : t ≡ asLoaded b) (n : not t ≡ false) (buf x : List ℕ) (w : Written) (q : Said) (eq : replyOf q ≡ replied w) where
-  pub answer-job : (replied w ≡ writing (writeJob (jobOf (b .stars))) buf .reply) × (x ≡ writing (writeJob (jobOf (b .stars))) buf .buffer)
-      → Tells b (record { board = b; reply = q }) x (step (boardOf b) (writesJob buf))
-  unfolding step writing
-  answer-job e = rw (is-holding b t et n) (writes-tells b _ _ (writeJob (jobOf (b .stars))) buf x q (eq ∙ e .0) (e .1))
+module _ (b : HeldBoard) (n : b .stars .count ≡ 0 → ⊥) (buf x : List ℕ) (w : Written) (q : Said) (eq : replyOf q ≡ replied w) where
+  -- the held job, by its slices
+  abbrev stars-job : Job
+  stars-job = jobIn (b .stars .count) (b .stars .ends) (b .stars .nbr) (b .stars .kind)
 
-  pub answer-plan : (replied w ≡ writing (inBytes (writePlan (planIn (b .plan)))) buf .reply)
-      × (x ≡ writing (inBytes (writePlan (planIn (b .plan)))) buf .buffer)
-      → Tells b (record { board = b; reply = q }) x (step (boardOf b) (writesPlan buf))
-  unfolding step writing
+  pub answer-job : (replied w ≡ writing (writeJob stars-job) buf .reply) × (x ≡ writing (writeJob stars-job) buf .buffer)
+      → Tells (record { board = b; reply = q }) x (outcome b (writesJob buf))
+  unfolding outcome step writing
+  answer-job e =
+      let f = rw (job-stars (b .stars) (b .stars .count) refl) at e in
+      rw (is-holding b n) (writes-tells b _ _ (writeJob (jobOf (b .stars))) buf x q (eq ∙ f .0) (f .1))
+
+  -- the held plan, by its slices
+  abbrev rects-plan : Plan
+  rects-plan = planFrom (b .plan .width) (b .plan .height) (b .plan .rooms + 4) (b .plan .rects)
+
+  pub answer-plan : (replied w ≡ writing (inBytes (writePlan rects-plan)) buf .reply) × (x ≡ writing (inBytes (writePlan rects-plan)) buf .buffer)
+      → Tells (record { board = b; reply = q }) x (outcome b (writesPlan buf))
+  unfolding outcome writing
   answer-plan e =
-      let k : inBytes (writePlan (planIn (b .plan))) ≡ writePlan (planIn (b .plan)) = bytes-kept _ (plan-bytes _ _ (standing b (sym et ∙ not-false t n))) in
-      let f = rw k at e in
-      rw (is-holding b t et n) (writes-tells b _ _ (writePlan (planIn (b .plan))) buf x q (eq ∙ f .0) (f .1))
+      let f = rw (plan-held (b .plan)) at e in
+      rw (ne-eqb (b .stars .count) 0 n) (writes-tells b empty _ (inBytes (writePlan (planIn (b .plan)))) buf x q (eq ∙ f .0) (f .1))
+
+-- held stars drawn, as the job that they are
+pub stars-drawn : (s : Stars) (n : ℕ) (r : Drawing) → n ≡ s .count
+    → Draws r (jobIn n (s .ends) (s .nbr) (s .kind)) (drawnAny (jobIn n (s .ends) (s .nbr) (s .kind))) → Draws r (jobOf s) (drawnAny (jobOf s))
+stars-drawn s n r e d = rw (job-stars s n e) at d

@@ -1,5 +1,4 @@
 mod Standing
-mod Turning
 mod Answering
 pub mod Corollaries
 pub mod AnyCalls

@@ -1,19 +1,19 @@
 -- What a board holds, and what a call hands back. Assumes nothing.
-use Prim.Native.Nat.{ℕ, _≤_}
+use Prim.Native.Nat.{ℕ}
 use mathlib.Core.Path.{_≡_}
-use mathlib.Core.Bool.{Bool, false, cond, _&&_}
-use mathlib.Core.List.{List}
+use mathlib.Core.Bool.{cond}
+use mathlib.Core.List.{List, []}
 use lib.Dec.{eqb}
-use lib.ListN.{length}
-use Rattle.floor.specs.Lists.{sameNumbers}
-use Rattle.floor.specs.Jobs.{Job, Reading, fails, reads, writeJob}
-use Rattle.floor.specs.Plans.{Plan, Answer, refused, held}
-use Rattle.floor.specs.Calls.{load, Board, empty, holding, Reply, refusal, done, spans, says, wrote, Step}
+use Rattle.floor.specs.Jobs.{Job}
+use Rattle.floor.specs.Plans.{Plan, Answer, refused, held, writePlan}
+use Rattle.floor.specs.Calls.{Board, empty, holding, Call, loads, turns, rectangle, shares, writesJob, writesPlan}
+use Rattle.floor.specs.Calls.{Reply, refusal, done, spans, says, wrote, Step, refuse, step}
+use Rattle.fields.specs.Writes.{writing}
 use Rattle.stars.specs.declared.Stars.{Stars}
 use Rattle.stars.specs.Held.{jobOf, noStars, heldOf}
-use Rattle.drawing.specs.declared.Plan.{Plan as HeldPlan}
-use Rattle.drawing.specs.Rects.{rectIn, planIn, noPlan, heldPlan}
-use Rattle.drawing.specs.Drawn.{said}
+use Rattle.drawing.specs.Rects.{rectIn, planIn, inBytes, noPlan, heldPlan}
+use Rattle.drawing.specs.Drawn.{drawnAny, said}
+use Rattle.turns.specs.InPlace.{Swing, stops, swings, swingOf, twoPut}
 use Rattle.board.specs.declared.Board.{Board as HeldBoard}
 use Rattle.board.specs.declared.Planned.{Planned}
 use Rattle.board.specs.declared.Reply.{Reply as Said}
@@ -28,26 +28,9 @@ boardFor j p = record { stars = heldOf j; plan = heldPlan p }
 unfoldable pub noBoard : HeldBoard
 noBoard = record { stars = noStars; plan = noPlan }
 
--- the same stars
-unfoldable pub sameStars : Stars → Stars → Bool
-sameStars s t = eqb (s .count) (t .count) && sameNumbers (s .ends) (t .ends) && sameNumbers (s .nbr) (t .nbr) && sameNumbers (s .kind) (t .kind)
-
--- the same rectangles on the same sheet
-unfoldable pub samePlan : HeldPlan → HeldPlan → Bool
-samePlan p q = eqb (p .rooms) (q .rooms) && eqb (p .width) (q .width) && eqb (p .height) (q .height) && sameNumbers (p .rects) (q .rects)
-
--- a board is the one that a load with this answer leaves
-unfoldable pub leftBy : HeldBoard → Answer → Bool
-leftBy b (refused k) = false
-leftBy b (held j p) = sameStars (b .stars) (heldOf j) && samePlan (b .plan) (heldPlan p)
-
--- a board is as a load leaves it: loading its own job, written, leaves this very board
-unfoldable pub asLoaded : HeldBoard → Bool
-asLoaded b = leftBy b (load (writeJob (jobOf (b .stars))))
-
--- WHAT A BOARD HOLDS, whatever stands in it: its job and plan where it is as a load leaves it, and else nothing
+-- WHAT A BOARD HOLDS, whatever stands in it: nothing where it has no room, and else the job of its stars, and its plan
 unfoldable pub boardOf : HeldBoard → Board
-boardOf b = cond (asLoaded b) (holding (jobOf (b .stars)) (planIn (b .plan))) empty
+boardOf b = cond (eqb (b .stars .count) 0) empty (holding (jobOf (b .stars)) (planIn (b .plan)))
 
 -- the board that is kept of a job planned: none where it is refused
 unfoldable pub kept : Answer → HeldBoard
@@ -58,16 +41,6 @@ kept (held j p) = boardFor j p
 pub record Plans (r : Planned) (x : Answer) : Type 0 where
   pub says : said (r .answer) (jobOf (r .board .stars)) (planIn (r .board .plan)) ≡ x
   pub keeps : r .board ≡ kept x
-
--- what a contact turned comes to: its refusal, or what loading the turned job comes to
-unfoldable pub turnLoads : Reading → Answer
-turnLoads (fails k) = refused k
-turnLoads (reads i) = load (writeJob i)
-
--- the turned job, if there is one, takes no more than 1024 bytes
-unfoldable pub fits : Reading → Type 0
-fits (fails k) = Unit {0}
-fits (reads i) = length (writeJob i) ≤ 1024
 
 -- WHAT A REPLY SAYS: a refusal's number, done, the rectangle, yes or no, the length written
 unfoldable pub replyOf : Said → Reply
@@ -86,8 +59,47 @@ handed b (spans r) c = b
 handed b (says t) c = b
 handed b (wrote n) c = b
 
--- A CALL'S PROMISE: reply, board and every byte of the lent buffer are those of the rules
-pub record Tells (b : HeldBoard) (r : Handed) (buf : List ℕ) (s : Step) : Type 0 where
+-- what comes back from a call: the board, the answer, and the bytes of the lent buffer
+pub record Outcome : Type 0 where
+  pub board : HeldBoard
+  pub reply : Reply
+  pub buffer : List ℕ
+
+-- as a step of the rules says
+unfoldable pub asRules : HeldBoard → Step → Outcome
+asRules b s = record { board = handed b (s .reply) (s .board); reply = s .reply; buffer = s .buffer }
+
+-- the very board, and a refusal
+unfoldable pub staying : HeldBoard → ℕ → Outcome
+staying b k = record { board = b; reply = refusal k; buffer = [] }
+
+-- the same, as it is handed back
+abbrev pub stayed : HeldBoard → ℕ → Handed
+stayed b k = record { board = b; reply = Refused k }
+
+-- these stars drawn: held with their plan, or all stays as it was
+unfoldable pub newly : HeldBoard → Stars → Answer → Outcome
+newly b s (refused k) = staying b k
+newly b s (held j p) = record { board = record { stars = s; plan = heldPlan p }; reply = done; buffer = [] }
+
+-- a contact turned where it stands, and the stars drawn
+unfoldable pub turnedTo : HeldBoard → Swing → Outcome
+turnedTo b (stops k) = staying b k
+turnedTo b (swings u v t) = newly b (twoPut (b .stars) u v t) (drawnAny (jobOf (twoPut (b .stars) u v t)))
+
+-- ONE CALL ON ANY BOARD, whatever stands in it: of what it holds as the rules say; a contact is turned in the very stars, and of a plan one byte of each
+-- number is written
+unfoldable pub outcome : HeldBoard → Call → Outcome
+outcome b (loads bs) = asRules b (step (boardOf b) (loads bs))
+outcome b (turns u v) = cond (eqb (b .stars .count) 0) (staying b 10) (turnedTo b (swingOf (jobOf (b .stars)) u v))
+outcome b (rectangle v) = asRules b (step (boardOf b) (rectangle v))
+outcome b (shares u v) = asRules b (step (boardOf b) (shares u v))
+outcome b (writesJob buf) = asRules b (step (boardOf b) (writesJob buf))
+outcome b (writesPlan buf) =
+    asRules b (cond (eqb (b .stars .count) 0) (refuse empty 10 buf) (writing (inBytes (writePlan (planIn (b .plan)))) buf))
+
+-- A CALL'S PROMISE: reply, board and every byte of the lent buffer are those of the outcome
+pub record Tells (r : Handed) (buf : List ℕ) (s : Outcome) : Type 0 where
   pub reply : replyOf (r .reply) ≡ s .reply
-  pub board : r .board ≡ handed b (s .reply) (s .board)
+  pub board : r .board ≡ s .board
   pub buffer : buf ≡ s .buffer

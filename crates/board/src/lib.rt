@@ -1,15 +1,16 @@
 // The board: load, questions, writing. It goes in by value and comes back from each call.
 ghost use mathlib.Core.Path.{_≡_};
 ghost use mathlib.Core.List.{[]};
-ghost use Rattle.floor.specs.Calls.{load, loads, turns, rectangle, shares, writesJob, writesPlan, step};
+ghost use Rattle.floor.specs.Calls.{load, loads, turns, rectangle, shares, writesJob, writesPlan};
 ghost use Rattle.drawing.specs.declared.Answer.the-variants.{Refused};
-ghost use Rattle.board.specs.Boards.{noBoard, boardOf, Plans, Tells};
+ghost use Rattle.stars.specs.Held.{jobOf};
+ghost use Rattle.drawing.specs.Drawn.{drawnAny, Draws};
+ghost use Rattle.board.specs.Boards.{noBoard, Plans, stayed, newly, outcome, Tells};
+use drawing::Drawing;
 use drawing::Plan;
 use drawing::Rect;
 use stars::Stars;
 
-mod same; // same.rt: whether a board is as a load leaves it
-mod turn; // turn.rt: the turned job, planned
 mod questions; // questions.rt: what the questions and writings ask
 
 // What is held: a job, turns included, as its stars, and its plan.
@@ -62,6 +63,43 @@ fn refused(k: u8) -> Planned
     }
 }
 
+// Held stars numbered and drawn: tests 7, 8 and 9.
+fn draw_stars(stars: Stars) -> Drawing
+    ensures { λ r. ⌜ Draws r (jobOf stars) (drawnAny (jobOf stars)) ⌝ }
+{
+    let count = fields::wide(stars.count);
+    drawing::draw(&stars.ends, &stars.nbr, &stars.kind, count)
+}
+
+// A refusal: the very board comes back.
+fn stays(board: Board, k: u8) -> Step
+    ensures { λ r. ⌜ r ≡ stayed board k ⌝ }
+{
+    Step {
+        board: board,
+        reply: Reply::Refused(k),
+    }
+}
+
+// Stars drawn, and held with their plan; all stays as it was where test 7, 8 or 9 fails.
+fn hold_drawn(kept: Board, next: Stars) -> Step
+    ensures { λ r. ⌜ Tells r [] (newly kept next (drawnAny (jobOf next))) ⌝ }
+{
+    let drawing = draw_stars(next);
+    let fresh = drawing.plan;
+    let drawn = drawing.answer;
+    match drawn {
+        drawing::Answer::Drawn => Step {
+            board: Board {
+                stars: next,
+                plan: fresh,
+            },
+            reply: Reply::Done,
+        },
+        drawing::Answer::Refused(k) => stays(kept, k),
+    }
+}
+
 // A job's bytes planned: tests 1 to 9.
 pub fn plan_job(job: &[u8]) -> Planned
     ensures { λ r. ⌜ Plans r (load (now (job .entry))) ⌝ }
@@ -71,7 +109,7 @@ pub fn plan_job(job: &[u8]) -> Planned
     let answer = read.answer;
     match answer {
         jobs::Answer::Passed => {
-            let drawing = drawing::draw(stars);
+            let drawing = draw_stars(stars);
             let plan = drawing.plan;
             let drawn = drawing.answer;
             match drawn {
@@ -92,7 +130,7 @@ pub fn plan_job(job: &[u8]) -> Planned
 impl Board {
     // A job loaded: 1 to 9.
     pub fn load(self, job: &[u8]) -> Step
-        ensures { λ r. ⌜ Tells self r [] (step (boardOf self) (loads (now (job .entry)))) ⌝ }
+        ensures { λ r. ⌜ Tells r [] (outcome self (loads (now (job .entry)))) ⌝ }
     {
         let old = self;
         let planned = plan_job(job);
@@ -103,65 +141,56 @@ impl Board {
                 board: fresh,
                 reply: Reply::Done,
             },
-            drawing::Answer::Refused(k) => Step {
-                board: old,
-                reply: Reply::Refused(k),
-            },
+            drawing::Answer::Refused(k) => stays(old, k),
         }
     }
 
     // A contact turned, its two rooms named in either order: 10, 11, 12, then 7, 8 and 9 of the turned labelling.
     pub fn turn(self, u: usize, v: usize) -> Step
-        ensures { λ r. ⌜ Tells self r [] (step (boardOf self) (turns u v)) ⌝ }
+        ensures { λ r. ⌜ Tells r [] (outcome self (turns u v)) ⌝ }
     {
-        if !same::as_loaded(self) {
-            return Step {
-                board: self,
-                reply: Reply::Refused(10),
-            };
+        if self.stars.count == 0 {
+            return stays(self, 10);
         }
-        let kept = self;
-        let stars = kept.stars;
-        let planned = turn::plan_turned(stars, u, v);
-        let turned = planned.board;
-        let answer = planned.answer;
-        match answer {
-            drawing::Answer::Drawn => {
-                let new_stars = turned.stars;
-                let new_plan = turned.plan;
-                Step {
-                    board: Board {
-                        stars: new_stars,
-                        plan: new_plan,
-                    },
-                    reply: Reply::Done,
-                }
+        let stars = self.stars;
+        let mut nbr = stars.nbr;
+        let mut kind = stars.kind;
+        let swing = turns::turn_held(
+            &mut nbr,
+            &mut kind,
+            &stars.ends,
+            &stars.nbr,
+            &stars.kind,
+            fields::wide(stars.count),
+            u,
+            v,
+        );
+        match swing {
+            turns::Swing::Stops(k) => stays(self, k),
+            turns::Swing::Swings(_, _, _) => {
+                let ends = stars.ends;
+                let next = Stars {
+                    count: stars.count,
+                    ends: ends,
+                    nbr: nbr,
+                    kind: kind,
+                };
+                hold_drawn(self, next)
             }
-            drawing::Answer::Refused(k) => Step {
-                board: kept,
-                reply: Reply::Refused(k),
-            },
         }
     }
 
     // The rectangle of a vertex: 10, 13.
     pub fn rectangle(self, v: usize) -> Step
-        ensures { λ r. ⌜ Tells self r [] (step (boardOf self) (rectangle v)) ⌝ }
+        ensures { λ r. ⌜ Tells r [] (outcome self (rectangle v)) ⌝ }
     {
-        if !same::as_loaded(self) {
-            return Step {
-                board: self,
-                reply: Reply::Refused(10),
-            };
+        if self.stars.count == 0 {
+            return stays(self, 10);
         }
         if !questions::vertex(self.stars.count, v) {
-            return Step {
-                board: self,
-                reply: Reply::Refused(13),
-            };
+            return stays(self, 13);
         }
-        let plan = self.plan;
-        let rect = drawing::rectangle(plan, v);
+        let rect = drawing::rectangle(&self.plan.rects, self.plan.rooms, v);
         Step {
             board: self,
             reply: Reply::Spans(rect),
@@ -170,22 +199,15 @@ impl Board {
 
     // Whether two vertices share a wall length of at least 1, one vertex asked twice not: 10, 13.
     pub fn shares(self, u: usize, v: usize) -> Step
-        ensures { λ r. ⌜ Tells self r [] (step (boardOf self) (shares u v)) ⌝ }
+        ensures { λ r. ⌜ Tells r [] (outcome self (shares u v)) ⌝ }
     {
-        if !same::as_loaded(self) {
-            return Step {
-                board: self,
-                reply: Reply::Refused(10),
-            };
+        if self.stars.count == 0 {
+            return stays(self, 10);
         }
         if !questions::two_vertices(self.stars.count, u, v) {
-            return Step {
-                board: self,
-                reply: Reply::Refused(13),
-            };
+            return stays(self, 13);
         }
-        let plan = self.plan;
-        let answer = questions::two_share(plan, u, v);
+        let answer = questions::two_share(&self.plan.rects, self.plan.rooms, u, v);
         Step {
             board: self,
             reply: Reply::Says(answer),
@@ -194,16 +216,18 @@ impl Board {
 
     // The held job, turns included, written to the front of a lent buffer: 10, 14.
     pub fn write_job(self, out: &mut [u8]) -> Step
-        ensures { λ r. ⌜ Tells self r (now (out .exit)) (step (boardOf self) (writesJob (now (out .entry)))) ⌝ }
+        ensures { λ r. ⌜ Tells r (now (out .exit)) (outcome self (writesJob (now (out .entry)))) ⌝ }
     {
-        if !same::as_loaded(self) {
-            return Step {
-                board: self,
-                reply: Reply::Refused(10),
-            };
+        if self.stars.count == 0 {
+            return stays(self, 10);
         }
-        let stars = self.stars;
-        let written = jobs::write_job(stars, out);
+        let written = jobs::write_job(
+            &self.stars.ends,
+            &self.stars.nbr,
+            &self.stars.kind,
+            self.stars.count,
+            out,
+        );
         let reply = questions::written_reply(written);
         Step {
             board: self,
@@ -213,16 +237,18 @@ impl Board {
 
     // The held plan written to the front of a lent buffer: 10, 14.
     pub fn write_plan(self, out: &mut [u8]) -> Step
-        ensures { λ r. ⌜ Tells self r (now (out .exit)) (step (boardOf self) (writesPlan (now (out .entry)))) ⌝ }
+        ensures { λ r. ⌜ Tells r (now (out .exit)) (outcome self (writesPlan (now (out .entry)))) ⌝ }
     {
-        if !same::as_loaded(self) {
-            return Step {
-                board: self,
-                reply: Reply::Refused(10),
-            };
+        if self.stars.count == 0 {
+            return stays(self, 10);
         }
-        let plan = self.plan;
-        let written = drawing::write_plan(plan, out);
+        let written = drawing::write_plan(
+            self.plan.width,
+            self.plan.height,
+            self.plan.rooms,
+            &self.plan.rects,
+            out,
+        );
         let reply = questions::written_reply(written);
         Step {
             board: self,

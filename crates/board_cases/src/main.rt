@@ -1,4 +1,4 @@
-// Boards made by hand: one that no load leaves counts as empty.
+// Boards made by hand: every call answers of what stands in them, by one total definition, and stops at none.
 use board::Board;
 use board::Reply;
 
@@ -17,52 +17,157 @@ fn show_rect(rect: drawing::Rect) {
     show_number(fields::number(rect.y2));
 }
 
-// What a call answered, on a line.
-fn show_reply(reply: Reply) {
+// Yes or no.
+fn show_bool(yes: bool) {
+    if yes {
+        io::write_all(1, b" yes");
+    } else {
+        io::write_all(1, b" no");
+    }
+}
+
+// What was asked and what a call answered, on a line.
+fn show(asked: &[u8], reply: Reply) {
+    io::write_all(1, asked);
     match reply {
         Reply::Refused(k) => {
             io::write_all(1, b" refused");
             show_number(fields::wide(k));
         }
+        Reply::Done => {
+            io::write_all(1, b" done");
+        }
         Reply::Spans(rect) => {
             show_rect(rect);
         }
-        _ => {
-            io::write_all(1, b" another answer");
+        Reply::Says(yes) => {
+            show_bool(yes);
+        }
+        Reply::Wrote(length) => {
+            io::write_all(1, b" bytes");
+            show_number(length);
         }
     }
     io::write_all(1, b"\n");
 }
 
-// The rectangle of one vertex, asked of the board.
-fn show_vertex(board: Board, v: usize) {
-    io::write_all(1, b"  rectangle of");
-    show_number(v);
-    io::write_all(1, b":");
+// The rectangle of a vertex.
+fn show_vertex(asked: &[u8], board: Board, v: usize) {
     let step = board.rectangle(v);
-    let answer = step.reply;
-    show_reply(answer);
+    let reply = step.reply;
+    show(asked, reply);
 }
 
-// A board with the stars of a held one and no plan holds nothing, and so does one whose plan is a cell wider.
-fn show_hand_made(board: Board) {
+// Whether rooms 4 and 5 share a wall.
+fn show_shares(board: Board) {
+    let step = board.shares(4, 5);
+    let reply = step.reply;
+    show(b"  4 and 5 share:", reply);
+}
+
+// The width as the bytes of a plan have it.
+fn show_width(reply: Reply, width: u8) {
+    match reply {
+        Reply::Wrote(_) => {
+            io::write_all(1, b"  its width:");
+            show_number(fields::wide(width));
+            io::write_all(1, b"\n");
+        }
+        _ => {}
+    }
+}
+
+// The job and the plan, written.
+fn show_written(board: Board) {
+    let mut out = [0u8; 4096];
+    let first = board.write_job(&mut out);
+    let job = first.reply;
+    show(b"  the job:", job);
+    let second = board.write_plan(&mut out);
+    let plan = second.reply;
+    show(b"  the plan:", plan);
+    show_width(plan, out[3]);
+}
+
+// The contact of rooms 5 and 6 turned, and the rectangle of 5 then.
+fn show_turned(board: Board) {
+    let step = board.turn(5, 6);
+    let next = step.board;
+    let reply = step.reply;
+    show(b"  5 and 6 turned:", reply);
+    show_vertex(b"  rectangle of 5:", next, 5);
+}
+
+// A board, asked by every call but load.
+fn show_board(name: &[u8], board: Board) {
+    io::write_all(1, name);
+    show_vertex(b"  rectangle of 5:", board, 5);
+    show_shares(board);
+    show_written(board);
+    show_turned(board);
+}
+
+// No room is counted: nothing is held, whatever else stands there.
+fn uncounted(board: Board) -> Board {
+    let mut next = board;
+    next.stars.count = 0;
+    next
+}
+
+// The stars of the board, and no plan: a vertex past its rectangles lies nowhere.
+fn unplanned(board: Board) -> Board {
     let stars = board.stars;
     let none = drawing::no_plan();
-    let torn = Board {
+    Board {
         stars: stars,
         plan: none,
-    };
-    io::write_all(1, b"made by hand:\n");
-    show_vertex(torn, 4);
-    let mut wide = board;
-    wide.plan.width = 63;
-    show_vertex(wide, 4);
-    show_vertex(board, 4);
+    }
+}
+
+// Room 5 a cell wider, and the sheet by 256, of which a byte is written.
+fn wider(board: Board) -> Board {
+    let stars = board.stars;
+    let mut plan = board.plan;
+    plan.width = 260;
+    plan.rects[22] = 4;
+    Board {
+        stars: stars,
+        plan: plan,
+    }
+}
+
+// The star of the last room ends past the arrays.
+fn overrun(board: Board) -> Board {
+    let mut stars = board.stars;
+    stars.ends[3] = 65535;
+    let plan = board.plan;
+    Board {
+        stars: stars,
+        plan: plan,
+    }
+}
+
+// As many rooms as a byte counts.
+fn crowded(board: Board) -> Board {
+    let mut next = board;
+    next.stars.count = 255;
+    next.plan.rooms = 255;
+    next
 }
 
 fn main() {
     let none = board::empty();
-    let step = none.load(b"\x01\x00\x01\x01\x02\x00\x08\x00\x00\x01\x01\x02\x02\x03\x03");
+    let step = none.load(
+        b"\x01\x00\x01\x04\x02\x00\x08\x00\x00\x01\x01\x06\x02\x05\x03\x02\x00\x0a\x00\x00\x04\x01\x06\x01\x07\x02\x03\x03\x02\x00\x0a\x04\x00\x01\x01\x02\x02\x07\x03\x05\x03\x02\x00\x08\x05\x00\x06\x01\x02\x02\x03\x03",
+    );
     let held = step.board;
-    show_hand_made(held);
+    show_board(b"as loaded:\n", held);
+    show_board(b"no room counted:\n", uncounted(held));
+    show_board(b"stars and no plan:\n", unplanned(held));
+    show_board(b"a cell wider:\n", wider(held));
+    show_board(b"a star ends past the arrays:\n", overrun(held));
+    let many = crowded(held);
+    show_board(b"more rooms than stars:\n", many);
+    show_vertex(b"  rectangle of 258:", many, 258);
+    show_vertex(b"  rectangle of 259:", many, 259);
 }

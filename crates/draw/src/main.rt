@@ -1,6 +1,4 @@
 // Reads a job from standard input and draws its plan as a picture (SVG); where there is no plan, prints what the listing says.
-ghost use mathlib.Core.Path.{_≡_};
-ghost use lib.ListN.{length};
 use drawing::Plan;
 use rooms::Layer;
 
@@ -41,16 +39,9 @@ fn picture(plan: Plan) {
     pen::word(b"</svg>\n");
 }
 
-// A buffer for what is printed.
-fn page() -> [u8; 8192]
-    ensures { λ r. ⌜ length r ≡ 8192 ⌝ }
-{
-    [0; 8192]
-}
-
 // What the listing says.
 fn say(input: &[u8]) {
-    let mut out = page();
+    let mut out = letters::page();
     let length = texts::list(input, &mut out);
     io::write_all(1, &out[..length]);
 }

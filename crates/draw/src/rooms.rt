@@ -99,7 +99,11 @@ pub fn paint_all(layer: Layer, plan: Plan) {
     let many = fields::wide(plan.rooms) + 4;
     let mut v: usize = 0;
     while v < many {
-        paint(layer, plan.height, drawing::rectangle(plan, v));
+        paint(
+            layer,
+            plan.height,
+            drawing::rectangle(&plan.rects, plan.rooms, v),
+        );
         v += 1;
     }
 }

@@ -10,12 +10,10 @@ use lib.ListN.{length, getD, List·getD-eq-default}
 use Rattle.floor.specs.Lists.{all, pairwise, sum}
 use Rattle.floor.specs.Jobs.{Entry, Star, Job}
 use Rattle.floor.specs.Plans.{Rect, nowhere, area, rectOf, inside, apart, corner, sharesJoined, follows, inOrder, drawable}
-use Rattle.stars.specs.declared.Stars.{Stars}
-use Rattle.stars.specs.Held.{toAt, entryAt, cells, startOf, endOf, heldStar, starsIn, jobOf}
+use Rattle.stars.specs.Held.{toAt, entryAt, cells, startOf, endOf, heldStar, starsIn}
 use Rattle.stars.proofs.Holding.{cells-more, cells-done, held-more, held-done}
 use Rattle.drawing.specs.declared.Rect.{Rect as HeldRect}
-use Rattle.drawing.specs.declared.Plan.{Plan as HeldPlan}
-use Rattle.drawing.specs.Rects.{rectIn, rectAt, rectsIn, planIn}
+use Rattle.drawing.specs.Rects.{planFrom, rectIn, rectAt, rectsIn}
 use Rattle.drawing.specs.Tests.{insideSheet, pairOk, ordered, starOrdered}
 
 -- in which order tests are asked does not matter
@@ -210,60 +208,44 @@ pub star-whole : (rs : List Rect) (ends nbr kind : List ℕ) (i x y : ℕ) (t : 
 unfolding heldStar
 star-whole rs ends nbr kind i x y t ex ey e = rw (← ex, ← ey) e
 
--- a plan
-module _ (p : HeldPlan) (y : ℕ) (ey : y ≡ p .rooms) where
-  pub rect-of-plan : (v : ℕ) (r : HeldRect) → rectIn r ≡ getD (rectsIn (y + 4) 0 (p .rects)) v nowhere → rectIn r ≡ rectOf (planIn p) v
-  unfolding rectOf planIn
-  rect-of-plan v r e = rw (← ey) e
+-- the rectangle of a vertex, of so many rooms
+pub rect-known : (l : List ℕ) (rooms n v : ℕ) (r : HeldRect) → n ≡ rooms → rectIn r ≡ getD (rectsIn (n + 4) 0 l) v nowhere
+    → rectIn r ≡ getD (rectsIn (rooms + 4) 0 l) v nowhere
+rect-known l rooms n v r e f = rw (← e) f
 
-  module _ (h : Stars) (x : ℕ) (ex : x ≡ h .count) where
-    pub pairs-of-plan : (b : Bool) → b ≡ pairwise (pairOk (starsIn x 0 (h .ends) (h .nbr) (h .kind))) (rectsIn (y + 4) 0 (p .rects))
-        → b ≡ pairwise (pairOk (jobOf h)) (planIn p .rects)
-    unfolding jobOf planIn
-    pairs-of-plan b e = rw (← ex, ← ey) e
+-- the drawing test of so many rectangles on a sheet
+module _ (j : Job) (w h many : ℕ) (l : List ℕ) where
+  abbrev placed : List Rect
+  placed = rectsIn many 0 l
 
-    -- the drawing test, with all that is asked of two rectangles in one place
-    drawable-is : drawable (jobOf h) (planIn p)
-        ≡ (all (insideSheet (p .width) (p .height)) (planIn p .rects)
-        && eqb (sum (map area (planIn p .rects))) (p .width * p .height)
-        && pairwise (pairOk (jobOf h)) (planIn p .rects)
-        && all (starOrdered (planIn p .rects)) (jobOf h))
-    unfolding drawable inside insideSheet starOrdered ordered inOrder rectOf planIn
-    drawable-is =
-        rw (pairs-is (jobOf h) (planIn p .rects))
-        (reorder
-        (all (insideSheet (p .width) (p .height)) (planIn p .rects))
-        (pairwise apart (planIn p .rects))
-        (eqb (sum (map area (planIn p .rects))) (p .width * p .height))
-        (pairwise (sharesJoined (jobOf h)) (planIn p .rects))
-        (pairwise (λ r s. not (corner r s)) (planIn p .rects))
-        (all (starOrdered (planIn p .rects)) (jobOf h)))
+  -- with all that is asked of two rectangles in one place
+  drawable-is : drawable j (planFrom w h many l)
+      ≡ (all (insideSheet w h) placed
+      && eqb (sum (map area placed)) (w * h)
+      && pairwise (pairOk j) placed
+      && all (starOrdered placed) j)
+  unfolding drawable inside insideSheet starOrdered ordered inOrder rectOf
+  drawable-is =
+      rw (pairs-is j placed)
+      (reorder
+      (all (insideSheet w h) placed)
+      (pairwise apart placed)
+      (eqb (sum (map area placed)) (w * h))
+      (pairwise (sharesJoined j) placed)
+      (pairwise (λ r s. not (corner r s)) placed)
+      (all (starOrdered placed) j))
 
-    module _ (a : Bool) (ea : a ≡ all (insideSheet (p .width) (p .height)) (rectsIn (y + 4) 0 (p .rects))) where
-      inside-is : all (insideSheet (p .width) (p .height)) (planIn p .rects) ≡ a
-      unfolding planIn
-      inside-is = rw (← ey) (sym ea)
+  module _ (a : Bool) (ea : a ≡ all (insideSheet w h) placed) where
+    pub drawable-outside : not a ≡ true → false ≡ drawable j (planFrom w h many l)
+    drawable-outside t = rw (drawable-is, ← ea, not-true a t)
 
-      pub drawable-outside : not a ≡ true → false ≡ drawable (jobOf h) (planIn p)
-      drawable-outside t = rw (drawable-is, inside-is, not-true a t)
+    module _ (b : Bool) (ta : not a ≡ false) (eb : b ≡ eqb (sum (map area placed)) (w * h)) where
+      pub drawable-gap : not b ≡ true → false ≡ drawable j (planFrom w h many l)
+      drawable-gap t = rw (drawable-is, ← ea, not-false a ta, ← eb, not-true b t)
 
-      module _ (b : Bool) (ta : not a ≡ false) (eb : b ≡ eqb (sum (map area (rectsIn (y + 4) 0 (p .rects)))) (p .width * p .height)) where
-        areas-is : eqb (sum (map area (planIn p .rects))) (p .width * p .height) ≡ b
-        unfolding planIn
-        areas-is = rw (← ey) (sym eb)
+      module _ (c : Bool) (tb : not b ≡ false) (ec : c ≡ pairwise (pairOk j) placed) where
+        pub drawable-pair : not c ≡ true → false ≡ drawable j (planFrom w h many l)
+        drawable-pair t = rw (drawable-is, ← ea, not-false a ta, ← eb, not-false b tb, ← ec, not-true c t)
 
-        pub drawable-gap : not b ≡ true → false ≡ drawable (jobOf h) (planIn p)
-        drawable-gap t = rw (drawable-is, inside-is, not-false a ta, areas-is, not-true b t)
-
-        module _ (c : Bool) (tb : not b ≡ false) (ec : c ≡ pairwise (pairOk (jobOf h)) (planIn p .rects)) where
-          -- what is left is the order
-          order-left : not c ≡ false → drawable (jobOf h) (planIn p) ≡ all (starOrdered (planIn p .rects)) (jobOf h)
-          order-left tc = rw (drawable-is, inside-is, not-false a ta, areas-is, not-false b tb, ← ec, not-false c tc)
-
-          pub drawable-pair : not c ≡ true → false ≡ drawable (jobOf h) (planIn p)
-          drawable-pair t = rw (drawable-is, inside-is, not-false a ta, areas-is, not-false b tb, ← ec, not-true c t)
-
-          pub drawable-order : (d : Bool) → not c ≡ false
-              → d ≡ all (starOrdered (rectsIn (y + 4) 0 (p .rects))) (starsIn x 0 (h .ends) (h .nbr) (h .kind)) → d ≡ drawable (jobOf h) (planIn p)
-          unfolding planIn jobOf
-          drawable-order d tc ed = (rw (ex, ey) at ed) ∙ sym (order-left tc)
+        pub drawable-order : (d : Bool) → not c ≡ false → d ≡ all (starOrdered placed) j → d ≡ drawable j (planFrom w h many l)
+        drawable-order d tc ed = ed ∙ sym (rw (drawable-is, ← ea, not-false a ta, ← eb, not-false b tb, ← ec, not-false c tc))

@@ -8,13 +8,13 @@ use mathlib.Core.List.{List, [], _∷_}
 use native.Mathlib.Omega.{arith}
 use borrow.Author.Tests.{leb-true}
 use lib.Dec.{leb}
-use lib.ListN.{length}
+use lib.ListN.{length, getD}
 use Rattle.floor.specs.Lists.Laws.{and-left}
 use Rattle.floor.specs.Fields.{Bytes}
 use Rattle.floor.specs.Jobs.{Job, test2}
 use Rattle.floor.specs.Jobs.Facts.{Passes}
 use Rattle.floor.specs.Walls.{Numbers, upright, level, rules, at, jobNumbers}
-use Rattle.floor.specs.Plans.{Rect, Plan, rectOf, planOf, drawable, Answer, refused, test8, drawn, writePlan}
+use Rattle.floor.specs.Plans.{Rect, nowhere, Plan, rectOf, planOf, drawable, Answer, refused, test8, drawn, writePlan}
 use Rattle.floor.specs.Plans.Held.{one-number, not-held, drawn-held, drawable-is-floor, held-good, nine}
 use Rattle.floor.specs.Floor.{Complete, Floor}
 use Rattle.fields.specs.declared.Written.{Written}
@@ -26,7 +26,7 @@ use Rattle.drawing.specs.declared.Answer.the-variants.{Drawn, Refused}
 use Rattle.drawing.specs.declared.Rect.{Rect as HeldRect}
 use Rattle.drawing.specs.declared.Plan.{Plan as HeldPlan}
 use Rattle.drawing.specs.declared.Drawing.{Drawing}
-use Rattle.drawing.specs.Rects.{rectIn, planIn, inBytes, heldPlan}
+use Rattle.drawing.specs.Rects.{rectIn, rectsIn, planFrom, planIn, inBytes, heldPlan}
 use Rattle.drawing.specs.Drawn.{drawnAny, said, Draws}
 use Rattle.drawing.proofs.Asking.{length-rects}
 use Rattle.drawing.proofs.Judging.{held-back}
@@ -50,20 +50,20 @@ one-drawing j x r t d e =
     same-fields (r .answer) (t .answer) (r .plan) (t .plan) a p
 
 -- THE PROMISE OF `write_plan` ALLOWS ONE ANSWER AND ONE BUFFER
-pub one-plan-writing : (p : HeldPlan) (o : List ℕ) (a b : Written) (x y : List ℕ)
-    → (replied a ≡ writing (inBytes (writePlan (planIn p))) o .reply) × (x ≡ writing (inBytes (writePlan (planIn p))) o .buffer)
-    → (replied b ≡ writing (inBytes (writePlan (planIn p))) o .reply) × (y ≡ writing (inBytes (writePlan (planIn p))) o .buffer) → (a ≡ b) × (x ≡ y)
-one-plan-writing p o a b x y v w = one-written (inBytes (writePlan (planIn p))) o a b x y v w
+pub one-plan-writing : (p : Plan) (o : List ℕ) (a b : Written) (x y : List ℕ)
+    → (replied a ≡ writing (inBytes (writePlan p)) o .reply) × (x ≡ writing (inBytes (writePlan p)) o .buffer)
+    → (replied b ≡ writing (inBytes (writePlan p)) o .reply) × (y ≡ writing (inBytes (writePlan p)) o .buffer) → (a ≡ b) × (x ≡ y)
+one-plan-writing p o a b x y v w = one-written (inBytes (writePlan p)) o a b x y v w
 
 -- THE PROMISE OF `drawable` ALLOWS ONE ANSWER
 pub one-test : (j : Job) (p : Plan) (a b : Bool) → a ≡ drawable j p → b ≡ drawable j p → a ≡ b
 one-test j p a b v w = one-answer a b (drawable j p) v w
 
 -- THE PROMISE OF `rectangle` ALLOWS ONE ANSWER
-pub one-rectangle : (p : Plan) (v : ℕ) (r t : HeldRect) → rectIn r ≡ rectOf p v → rectIn t ≡ rectOf p v → r ≡ t
+pub one-rectangle : (q : Rect) (r t : HeldRect) → rectIn r ≡ q → rectIn t ≡ q → r ≡ t
 unfolding rectIn
-one-rectangle p v r t d e =
-    let f : rectIn r ≡ rectIn t = one-answer (rectIn r) (rectIn t) (rectOf p v) d e in
+one-rectangle q r t d e =
+    let f : rectIn r ≡ rectIn t = one-answer (rectIn r) (rectIn t) q d e in
     same-rect t _ _ _ _ _
     (ap (λ (s : Rect). s .vertex) f)
     (ap (λ (s : Rect). s .x1) f)
@@ -81,10 +81,19 @@ unfolding inBytes
 bytes-kept [] h = refl
 bytes-kept (b ∷ bs) h = let e : b % 256 ≡ b = omega (arith, h .0) in rw (e, bytes-kept bs (h .1))
 
--- a held plan has a rectangle for each room and for the four sides of the frame
-pub many-rects : (p : HeldPlan) → length (planIn p .rects) ≡ p .rooms + 4
+-- the plan that is held, by its numbers
+pub plan-held : (p : HeldPlan) → planFrom (p .width) (p .height) (p .rooms + 4) (p .rects) ≡ planIn p
 unfolding planIn
-many-rects p = length-rects (p .rooms + 4) 0 (p .rects)
+plan-held p = refl
+
+-- its rectangle of a vertex is that of a held plan
+pub rect-held : (p : HeldPlan) (v : ℕ) → getD (rectsIn (p .rooms + 4) 0 (p .rects)) v nowhere ≡ rectOf (planIn p) v
+unfolding planIn rectOf
+rect-held p v = refl
+
+-- as many rectangles as are asked for
+pub many-rects : (m : ℕ) (l : List ℕ) → length (rectsIn m 0 l) ≡ m
+many-rects m l = length-rects m 0 l
 
 -- A PLAN IS HELD WITHOUT LOSS: one with a rectangle for each vertex, in vertex order, and for no more than 60 rooms
 pub plan-back : (j : Job) (p : Plan) → Complete j p → length j ≤ 60 → planIn (heldPlan p) ≡ p

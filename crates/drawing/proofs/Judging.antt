@@ -18,8 +18,7 @@ use Rattle.floor.specs.Plans.{Rect, nowhere, Plan, rectOf, roomRect, planOf, dr
 use Rattle.floor.specs.Plans.Held.{past-true, past-false}
 use Rattle.floor.specs.Floor.{Complete}
 use Rattle.floor.specs.Floor.Ours.{plan-complete}
-use Rattle.stars.specs.declared.Stars.{Stars}
-use Rattle.stars.specs.Held.{jobOf}
+use Rattle.stars.specs.Held.{jobIn}
 use Rattle.stars.proofs.Holding.{length-stars}
 use Rattle.walls.specs.declared.Answer.the-variants.{Numbered, Circle}
 use Rattle.walls.specs.declared.Walls.{Walls}
@@ -30,8 +29,8 @@ use Rattle.walls.proofs.Corollaries.{Reads, Counted, counted, circled, sheet-fi
 use Rattle.drawing.specs.declared.Answer.the-variants.{Drawn, Refused}
 use Rattle.drawing.specs.declared.Plan.{Plan as HeldPlan}
 use Rattle.drawing.specs.declared.Drawing.{Drawing}
-use Rattle.drawing.specs.Rects.{rectAt, rectsIn, planIn, flat, noughts, noPlan, heldPlan}
-use Rattle.drawing.specs.Drawn.{drawnAny, walled, frame, planOn, said, kept, Draws}
+use Rattle.drawing.specs.Rects.{rectAt, rectsIn, planFrom, planIn, flat, noughts, noPlan, heldPlan}
+use Rattle.drawing.specs.Drawn.{drawnAny, walledBy, walled, frame, planBy, planOn, said, kept, Draws}
 
 -- ---- what is held of a plan gives it back
 
@@ -101,7 +100,7 @@ map-same f g u (suc n) h = rw (h u (omega arith), map-same f g (suc u) n (λ v l
 
 module _ (j : Job) (w : Walls) (f g : ℕ → ℕ) (r : Reads w (length j + 4) f g) where
   room-same : (v : ℕ) → v < 4 + length j → walled w v ≡ roomRect f g v
-  unfolding walled roomRect
+  unfolding walledBy roomRect
   room-same v h =
       let e = r .sides v (omega arith) in
       let e₁ : getD (w .uprights .0) (low v) 0 ≡ f (low v) = ap (λ (s : Sides). s .left .0) e in
@@ -111,7 +110,7 @@ module _ (j : Job) (w : Walls) (f g : ℕ → ℕ) (r : Reads w (length j + 4) f
       rw (e₁, e₂, e₃, e₄)
 
   pub plan-same : planOn w (sheetOf w) (length j) ≡ planOf j f g
-  unfolding planOn planOf frame rooms
+  unfolding planBy planOf frame rooms
   plan-same =
       let e₁ : getD (w .uprights .0) (low 3) 0 + 1 ≡ f (low 3) + 1 = ap (λ (s : Sheet). s .width) (r .sheet) in
       let e₂ : getD (w .levels .0) (low 0) 0 + 1 ≡ g (low 0) + 1 = ap (λ (s : Sheet). s .height) (r .sheet) in
@@ -196,9 +195,13 @@ module _ (j : Job) (w : Walls) (ew : w ≡ wallsOf j) where
           back : planIn h ≡ p
           back = ap planIn held-is ∙ held-back j p (plan-complete j (at (c .xs)) (at (c .ys))) few-rooms
 
-          module _ (b : Bool) (eb : b ≡ drawable j (planIn h)) where
+          module _ (m : ℕ) (em : m ≡ h .rooms) (b : Bool) (eb : b ≡ drawable j (planFrom (h .width) (h .height) (m + 4) (h .rects))) where
+            whole : planFrom (h .width) (h .height) (m + 4) (h .rects) ≡ planIn h
+            unfolding planIn
+            whole = rw em
+
             draws : b ≡ drawable j p
-            draws = eb ∙ ap (drawable j) back
+            draws = eb ∙ ap (drawable j) (whole ∙ back)
 
             -- 9: the drawing test fails
             pub nine-drawn : (r : Drawing) → not b ≡ true → (r .answer ≡ Refused 9) × (r .plan ≡ noPlan) → Draws r j (drawnAny j)
@@ -214,7 +217,6 @@ module _ (j : Job) (w : Walls) (ew : w ≡ wallsOf j) where
                 = drawn-tested ∙ past-true (test8 p) 8 _ (sym fits-eight ∙ not-false fits t) ∙ past-true (drawable j p) 9 _ (sym draws ∙ not-false b f) in
                 record { says = rw (e, back); keeps = rw e held-is }
 
--- the held stars are as many as the job has
-pub stars-many : (s : Stars) → s .count ≡ length (jobOf s)
-unfolding jobOf
-stars-many s = sym (length-stars (s .count) 0 (s .ends) (s .nbr) (s .kind))
+-- held stars are as many as the job has
+pub stars-many : (n : ℕ) (ends nbr kind : List ℕ) → n ≡ length (jobIn n ends nbr kind)
+stars-many n ends nbr kind = sym (length-stars n 0 ends nbr kind)

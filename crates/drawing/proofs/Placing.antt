@@ -9,13 +9,12 @@ use Rattle.floor.specs.Lists.{upFrom}
 use Rattle.floor.specs.Lists.Laws.{length-upFrom}
 use Rattle.floor.specs.Plans.{Rect, roomRect}
 use Rattle.fields.proofs.Puts.{sets-append}
-use Rattle.walls.specs.declared.Walls.{Walls}
 use Rattle.walls.specs.declared.Sheet.{Sheet}
 use Rattle.walls.specs.declared.Sides.{Sides}
-use Rattle.walls.specs.Numbers.{sidesOf}
+use Rattle.walls.specs.Numbers.{sidesAt}
 use Rattle.drawing.specs.declared.Rect.{Rect as HeldRect}
 use Rattle.drawing.specs.Rects.{rectIn, flat, putFour, noughts, noPlan, heldPlan}
-use Rattle.drawing.specs.Drawn.{walled, frame, planOn}
+use Rattle.drawing.specs.Drawn.{walledBy, frame, planBy}
 
 -- a rectangle's four numbers
 pub four-put : (o : List ℕ) (v a b c d : ℕ)
@@ -34,10 +33,10 @@ unfolding flat frame putFour
 frame-put o a b c d w h ea eb ec ed = rw (ed, ec, eb, ea)
 
 -- a room's rectangle from its walls
-pub room-walled : (w : Walls) (v : ℕ) (s : Sides) → s ≡ sidesOf w v
-    → rectIn (record { vertex = v; x1 = s .left .0; y1 = s .lower .0; x2 = s .right .0; y2 = s .upper .0 }) ≡ walled w v
-unfolding rectIn walled roomRect
-room-walled w v s e = rw e
+pub room-walled : (xs ys : List ℕ) (v : ℕ) (s : Sides) → s ≡ sidesAt xs ys v
+    → rectIn (record { vertex = v; x1 = s .left .0; y1 = s .lower .0; x2 = s .right .0; y2 = s .upper .0 }) ≡ walledBy xs ys v
+unfolding rectIn walledBy roomRect
+room-walled xs ys v s e = rw e
 
 -- no plan
 pub none-held : (l : List ℕ) → l ≡ replicate 256 0 → record { rooms = 0; width = 0; height = 0; rects = l } ≡ noPlan
@@ -45,20 +44,20 @@ unfolding noPlan
 none-held l e = rw e
 
 -- the rooms, one by one: what is left to put, put, gives the whole
-module _ (w : Walls) where
+module _ (xs ys : List ℕ) where
   -- the numbers of n rooms from room u on
   abbrev roomsFrom : ℕ → ℕ → List ℕ
-  roomsFrom u n = flat (map (walled w) (upFrom u n))
+  roomsFrom u n = flat (map (walledBy xs ys) (upFrom u n))
 
-  four-of : (o : List ℕ) (r : HeldRect) (v : ℕ) → rectIn r ≡ walled w v
-      → putFour o v (r .x1) (r .y1) (r .x2) (r .y2) ≡ sets o (4 * v) (flat (walled w v ∷ []))
+  four-of : (o : List ℕ) (r : HeldRect) (v : ℕ) → rectIn r ≡ walledBy xs ys v
+      → putFour o v (r .x1) (r .y1) (r .x2) (r .y2) ≡ sets o (4 * v) (flat (walledBy xs ys v ∷ []))
   unfolding flat rectIn putFour
   four-of o r v e = ap (λ (s : Rect). sets o (4 * v) (s .x1 ∷ s .y1 ∷ s .x2 ∷ s .y2 ∷ [])) e
 
   pub rooms-first : (o : List ℕ) (n : ℕ) → sets o (4 * (4 + 0)) (roomsFrom (4 + 0) (n - 0)) ≡ sets o 16 (roomsFrom 4 n)
   rooms-first o n = let z : n - 0 ≡ n = omega arith in rw z
 
-  pub rooms-more : (o x y : List ℕ) (r : HeldRect) (n i : ℕ) → rectIn r ≡ walled w (4 + i)
+  pub rooms-more : (o x y : List ℕ) (r : HeldRect) (n i : ℕ) → rectIn r ≡ walledBy xs ys (4 + i)
       → x ≡ putFour o (4 + i) (r .x1) (r .y1) (r .x2) (r .y2) → i < n
       → sets o (4 * (4 + i)) (roomsFrom (4 + i) (n - i)) ≡ y → sets x (4 * (4 + (i + 1))) (roomsFrom (4 + (i + 1)) (n - (i + 1))) ≡ y
   unfolding flat upFrom
@@ -88,17 +87,17 @@ unfolding frame flat
 frame-numbers w h = refl
 
 -- the whole plan
-pub plan-put : (w : Walls) (s : Sheet) (n : ℕ) (z x y : List ℕ) (m : ℕ) → z ≡ replicate 256 0 → x ≡ sets z 0 (flat (frame (s .width) (s .height)))
-    → m ≡ n → y ≡ sets x 16 (flat (map (walled w) (upFrom 4 m)))
-    → record { rooms = n; width = s .width; height = s .height; rects = y } ≡ heldPlan (planOn w s n)
-unfolding heldPlan planOn
-plan-put w s n z x y m ez ex em ey =
-    let rs : List Rect = map (walled w) (upFrom 4 n) in
+pub plan-put : (xs ys : List ℕ) (s : Sheet) (n : ℕ) (z x y : List ℕ) → z ≡ replicate 256 0 → x ≡ sets z 0 (flat (frame (s .width) (s .height)))
+    → y ≡ sets x 16 (flat (map (walledBy xs ys) (upFrom 4 n)))
+    → record { rooms = n; width = s .width; height = s .height; rects = y } ≡ heldPlan (planBy xs ys s n)
+unfolding heldPlan planBy
+plan-put xs ys s n z x y ez ex ey =
+    let rs : List Rect = map (walledBy xs ys) (upFrom 4 n) in
     let f : List Rect = frame (s .width) (s .height) in
     let l : length (f ++ rs) - 4 ≡ n = rw (length-append f rs) (omega (arith, rooms, frame-sides (s .width) (s .height))) in
     let p : sets noughts 0 (flat (f ++ rs)) ≡ y
-    = rw (flat-append f rs) (sets-append noughts 0 (flat f) (flat rs) ∙ rw (ey, ex, ez, em, frame-numbers (s .width) (s .height))) in
+    = rw (flat-append f rs) (sets-append noughts 0 (flat f) (flat rs) ∙ rw (ey, ex, ez, frame-numbers (s .width) (s .height))) in
     rw (l, p)
   where
-    rooms : length (map (walled w) (upFrom 4 n)) ≡ n
-    rooms = length-map (upFrom 4 n) (walled w) ∙ length-upFrom 4 n
+    rooms : length (map (walledBy xs ys) (upFrom 4 n)) ≡ n
+    rooms = length-map (upFrom 4 n) (walledBy xs ys) ∙ length-upFrom 4 n

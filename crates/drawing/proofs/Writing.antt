@@ -7,15 +7,14 @@ use borrow.Author.Tests.{le-leb}
 use lib.ListN.{length, set}
 use lib.Seq.{sets}
 use Rattle.floor.specs.Fields.{writeField}
-use Rattle.floor.specs.Plans.{Rect, rectBytes, writeRects, writePlan}
+use Rattle.floor.specs.Plans.{Rect, Plan, rectBytes, writeRects, writePlan}
 use Rattle.floor.specs.Calls.Bytes.{length-writePlan}
 use Rattle.fields.specs.Found.{withHead}
 use Rattle.fields.specs.declared.Written.the-variants.{Wrote, TooShort}
 use Rattle.fields.specs.Writes.{replied, writing}
 use Rattle.fields.proofs.Puts.{sets-append, short-writes, front-writes}
 use Rattle.drawing.specs.declared.Rect.{Rect as HeldRect}
-use Rattle.drawing.specs.declared.Plan.{Plan as HeldPlan}
-use Rattle.drawing.specs.Rects.{rectIn, rectAt, rectsIn, planIn, inBytes}
+use Rattle.drawing.specs.Rects.{rectIn, rectAt, rectsIn, planFrom, inBytes}
 use Rattle.drawing.proofs.Asking.{rects-more, rects-done, length-rects}
 
 bytes-append : (a b : List ℕ) → inBytes (a ++ b) ≡ inBytes a ++ inBytes b
@@ -82,26 +81,27 @@ pub fields-first : (o l : List ℕ) (n : ℕ) → sets o (5 + 8 * 0) (inBytes (w
 fields-first o l n = let z : n - 0 ≡ n = omega arith in rw z
 
 -- the whole plan
-module _ (p : HeldPlan) (o : List ℕ) (n : ℕ) (en : n ≡ p .rooms) where
+module _ (w h rooms : ℕ) (l o : List ℕ) (n : ℕ) (en : n ≡ rooms) where
   -- its bytes
   abbrev bytes : List ℕ
-  bytes = inBytes (writePlan (planIn p))
+  bytes = inBytes (writePlan (planFrom w h (rooms + 4) l))
 
-  plan-bytes : bytes ≡ 3 ∷ 0 ∷ 2 ∷ p .width % 256 ∷ p .height % 256 ∷ inBytes (writeRects (rectsIn (n + 4) 0 (p .rects)))
-  unfolding inBytes writePlan writeField planIn
+  plan-bytes : bytes ≡ 3 ∷ 0 ∷ 2 ∷ w % 256 ∷ h % 256 ∷ inBytes (writeRects (rectsIn (n + 4) 0 l))
+  unfolding inBytes writePlan writeField
   plan-bytes = rw en
 
   plan-length : length bytes ≡ 5 + 8 * (n + 4)
-  unfolding planIn
-  plan-length = omega (arith, length-bytes (writePlan (planIn p)), length-writePlan (planIn p), length-rects (p .rooms + 4) 0 (p .rects))
+  plan-length =
+      let p : Plan = planFrom w h (rooms + 4) l in
+      omega (arith, length-bytes (writePlan p), length-writePlan p, length-rects (rooms + 4) 0 l)
 
   pub plan-short : length o < 5 + 8 * (n + 4) → (replied TooShort ≡ writing bytes o .reply) × (o ≡ writing bytes o .buffer)
-  plan-short h = short-writes bytes o (omega (arith, plan-length))
+  plan-short k = short-writes bytes o (omega (arith, plan-length))
 
-  pub plan-done : (h x : List ℕ) (w g : ℕ) → h ≡ withHead o 0 3 2 → w ≡ p .width % 256 → g ≡ p .height % 256
-      → x ≡ sets (set (set h 3 w) 4 g) 5 (inBytes (writeRects (rectsIn (n + 4) 0 (p .rects)))) → 5 + 8 * (n + 4) ≤ length o
+  pub plan-done : (y x : List ℕ) (a b : ℕ) → y ≡ withHead o 0 3 2 → a ≡ w % 256 → b ≡ h % 256
+      → x ≡ sets (set (set y 3 a) 4 b) 5 (inBytes (writeRects (rectsIn (n + 4) 0 l))) → 5 + 8 * (n + 4) ≤ length o
       → (replied (Wrote (5 + 8 * (n + 4))) ≡ writing bytes o .reply) × (x ≡ writing bytes o .buffer)
   unfolding withHead
-  plan-done h x w g eh ew eg ex k =
-      let f : x ≡ sets o 0 bytes = ex ∙ rw (eh, le-leb (0 + 3) (length o) (omega arith), ew, eg, plan-bytes) in
+  plan-done y x a b ey ea eb ex k =
+      let f : x ≡ sets o 0 bytes = ex ∙ rw (ey, le-leb (0 + 3) (length o) (omega arith), ea, eb, plan-bytes) in
       front-writes bytes o x (5 + 8 * (n + 4)) (sym plan-length) f (omega (arith, plan-length))

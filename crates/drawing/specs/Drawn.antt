@@ -20,9 +20,13 @@ use Rattle.drawing.specs.Rects.{planIn, noPlan, heldPlan}
 unfoldable pub drawnAny : Job → Answer
 drawnAny j = planned j (numbersIn upright j) (numbersIn level j)
 
+-- the rectangle of vertex v by the upright numbers and the level ones
+unfoldable pub walledBy : List ℕ → List ℕ → ℕ → Rect
+walledBy xs ys v = roomRect (λ s. getD xs s 0) (λ s. getD ys s 0) v
+
 -- the rectangle of vertex v by the numbers of the walls on its sides
-unfoldable pub walled : Walls → ℕ → Rect
-walled w v = roomRect (λ s. getD (w .uprights .0) s 0) (λ s. getD (w .levels .0) s 0) v
+abbrev pub walled : Walls → ℕ → Rect
+walled w v = walledBy (w .uprights .0) (w .levels .0) v
 
 -- the sides of the frame on a sheet so wide and so high: N, W, S and E, one cell thick
 unfoldable pub frame : ℕ → ℕ → List Rect
@@ -33,9 +37,13 @@ frame w h =
     ∷ record { vertex = 3; x1 = w - 1; y1 = 0; x2 = w; y2 = h }
     ∷ []
 
+-- the plan of n rooms by the upright numbers and the level ones, on a sheet
+unfoldable pub planBy : List ℕ → List ℕ → Sheet → ℕ → Plan
+planBy xs ys s n = record { width = s .width; height = s .height; rects = frame (s .width) (s .height) ++ map (walledBy xs ys) (upFrom 4 n) }
+
 -- the plan of n rooms by the numbers of walls, on a sheet
-unfoldable pub planOn : Walls → Sheet → ℕ → Plan
-planOn w s n = record { width = s .width; height = s .height; rects = frame (s .width) (s .height) ++ map (walled w) (upFrom 4 n) }
+abbrev pub planOn : Walls → Sheet → ℕ → Plan
+planOn w s n = planBy (w .uprights .0) (w .levels .0) s n
 
 -- what an answer says, beside the job and the plan: these, held, or the number of the test that fails
 unfoldable pub said : Said → Job → Plan → Answer

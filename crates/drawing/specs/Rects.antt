@@ -20,9 +20,13 @@ unfoldable pub rectsIn : ℕ → ℕ → List ℕ → List Rect
 rectsIn zero v l = []
 rectsIn (suc m) v l = rectAt l v ∷ rectsIn m (suc v) l
 
+-- the plan of so many rectangles on a sheet so wide and so high
+abbrev pub planFrom : ℕ → ℕ → ℕ → List ℕ → Plan
+planFrom w h many l = record { width = w; height = h; rects = rectsIn many 0 l }
+
 -- THE PLAN THAT IS HELD, whatever stands in it
 unfoldable pub planIn : HeldPlan → Plan
-planIn p = record { width = p .width; height = p .height; rects = rectsIn (p .rooms + 4) 0 (p .rects) }
+planIn p = planFrom (p .width) (p .height) (p .rooms + 4) (p .rects)
 
 -- the numbers of some rectangles
 unfoldable pub flat : List Rect → List ℕ

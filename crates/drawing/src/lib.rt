@@ -1,16 +1,14 @@
 // Plans: rectangles by wall numbers, the drawing test, tests 7 to 9 of held stars, and a plan's bytes.
 ghost use mathlib.Core.Path.{_≡_};
-ghost use lib.ListN.{replicate};
-ghost use Rattle.floor.specs.Lists.{pairwise};
-ghost use Rattle.floor.specs.Plans.{rectOf, drawable, writePlan};
+ghost use Prim.Native.Nat.{_+_, _<_};
+ghost use lib.ListN.{getD, replicate};
+ghost use Rattle.floor.specs.Plans.{nowhere, drawable, writePlan};
 ghost use Rattle.fields.specs.Writes.{replied, writing};
-ghost use Rattle.stars.specs.Held.{jobOf};
-ghost use Rattle.drawing.specs.Rects.{rectIn, planIn, inBytes, noPlan};
+ghost use Rattle.stars.specs.Held.{jobIn};
+ghost use Rattle.drawing.specs.Rects.{rectIn, rectsIn, planFrom, inBytes, noPlan};
 ghost use Rattle.drawing.specs.declared.Answer.the-variants.{Refused};
-ghost use Rattle.drawing.specs.Tests.{pairOk};
 ghost use Rattle.drawing.specs.Drawn.{drawnAny, Draws};
 use fields::Written;
-use stars::Stars;
 
 pub mod rects; // rects.rt: one rectangle and two: inside, apart, share, corner, area
 mod held; // held.rt: the held rectangles, read
@@ -80,69 +78,70 @@ fn refused(k: u8) -> Drawing
     }
 }
 
-// The rectangle of a vertex; none for a number that is no vertex.
-pub fn rectangle(plan: Plan, v: usize) -> Rect
-    ensures { λ r. ⌜ rectIn r ≡ rectOf (planIn plan) v ⌝ }
+// The rectangle of a vertex, of so many rooms; none for a number that is no vertex.
+pub fn rectangle(rects: &[u16], rooms: u8, v: usize) -> Rect
+    ensures { λ r. ⌜ rectIn r ≡ getD (rectsIn (rooms + 4) 0 (now (rects .entry))) v nowhere ⌝ }
 {
-    held::rect_of(&plan.rects, fields::wide(plan.rooms) + 4, v)
-}
-
-// Whether any two rectangles pass what is asked of two.
-fn pairs_ok(stars: Stars, plan: Plan) -> bool
-    ensures { λ r. ⌜ r ≡ pairwise (pairOk (jobOf stars)) (planIn plan .rects) ⌝ }
-{
-    let count = fields::wide(stars.count);
-    let many = fields::wide(plan.rooms) + 4;
-    pairs::all_pairs(
-        &stars.ends,
-        &stars.nbr,
-        &stars.kind,
-        count,
-        &plan.rects,
-        many,
-    )
+    held::rect_of(rects, fields::wide(rooms) + 4, v)
 }
 
 // The drawing test: each rectangle, the areas, any two rectangles in one pass, and the order of each star.
-pub fn drawable(stars: Stars, plan: Plan) -> bool
-    ensures { λ r. ⌜ r ≡ drawable (jobOf stars) (planIn plan) ⌝ }
+fn drawable<'a>(
+    ends: &'a [u16],
+    nbr: &'a [u16],
+    kind: &'a [u8],
+    count: usize,
+    rects: &'a [u16],
+    many: usize,
+    width: u16,
+    height: u16,
+) -> bool
+    requires { ⌜ many < 65536 ⌝ }
+    ensures { λ r. ⌜ r ≡ drawable (jobIn count (now (ends .entry)) (now (nbr .entry)) (now (kind .entry)))
+        (planFrom width height many (now (rects .entry))) ⌝ }
 {
-    let count = fields::wide(stars.count);
-    let many = fields::wide(plan.rooms) + 4;
-    if !sheet::all_inside(&plan.rects, many, plan.width, plan.height) {
+    if !sheet::all_inside(rects, many, width, height) {
         return false;
     }
-    if !sheet::areas_fill(&plan.rects, many, plan.width, plan.height) {
+    if !sheet::areas_fill(rects, many, width, height) {
         return false;
     }
-    if !pairs_ok(stars, plan) {
+    if !pairs::all_pairs(ends, nbr, kind, count, rects, many) {
         return false;
     }
-    order::all_ordered(
-        &plan.rects,
-        many,
-        &stars.ends,
-        &stars.nbr,
-        &stars.kind,
-        count,
-    )
+    order::all_ordered(rects, many, ends, nbr, kind, count)
 }
 
 // Held stars numbered and drawn: tests 7, 8 and 9.
-pub fn draw(stars: Stars) -> Drawing
-    ensures { λ r. ⌜ Draws r (jobOf stars) (drawnAny (jobOf stars)) ⌝ }
+pub fn draw<'a>(ends: &'a [u16], nbr: &'a [u16], kind: &'a [u8], count: usize) -> Drawing
+    ensures { λ r. ⌜ Draws r (jobIn count (now (ends .entry)) (now (nbr .entry)) (now (kind .entry)))
+        (drawnAny (jobIn count (now (ends .entry)) (now (nbr .entry)) (now (kind .entry)))) ⌝ }
 {
-    let walls = walls::walls_of(stars);
+    let walls = walls::walls_of(ends, nbr, kind, count);
     let answer = walls.answer;
     let walls::Answer::Numbered = answer else {
         return refused(7);
     };
-    let sheet = walls::sheet_of(walls);
+    let uprights = walls.uprights;
+    let levels = walls.levels;
+    let xs = uprights.0;
+    let ys = levels.0;
+    let sheet = walls::sheet_at(&xs, &ys);
     if !walls::sheet_fits(sheet) {
         return refused(8);
     }
-    let plan = place::plan_of(walls, sheet, stars.count);
-    if !drawable(stars, plan) {
+    let plan = place::plan_of(&xs, &ys, sheet, count);
+    let many = fields::wide(plan.rooms) + 4;
+    if !drawable(
+        ends,
+        nbr,
+        kind,
+        count,
+        &plan.rects,
+        many,
+        plan.width,
+        plan.height,
+    ) {
         return refused(9);
     }
     Drawing {
@@ -152,18 +151,18 @@ pub fn draw(stars: Stars) -> Drawing
 }
 
 // The plan, written to the front of a lent buffer; nothing behind it is touched, and nothing at all where it is too short.
-pub fn write_plan(plan: Plan, out: &mut [u8]) -> Written
-    ensures { λ r. ⌜ (replied r ≡ writing (inBytes (writePlan (planIn plan))) (now (out .entry)) .reply)
-        × (now (out .exit) ≡ writing (inBytes (writePlan (planIn plan))) (now (out .entry)) .buffer) ⌝ }
+pub fn write_plan(width: u16, height: u16, rooms: u8, rects: &[u16], out: &mut [u8]) -> Written
+    ensures { λ r. ⌜ (replied r ≡ writing (inBytes (writePlan (planFrom width height (rooms + 4) (now (rects .entry))))) (now (out .entry)) .reply)
+        × (now (out .exit) ≡ writing (inBytes (writePlan (planFrom width height (rooms + 4) (now (rects .entry))))) (now (out .entry)) .buffer) ⌝ }
 {
-    let many = fields::wide(plan.rooms) + 4;
+    let many = fields::wide(rooms) + 4;
     let length = 5 + 8 * many;
     if out.len() < length {
         return Written::TooShort;
     }
     fields::put_head(out, 0, 3, 2);
-    out[3] = put::low_byte(plan.width);
-    out[4] = put::low_byte(plan.height);
-    put::put_rects(out, &plan.rects, many);
+    out[3] = put::low_byte(width);
+    out[4] = put::low_byte(height);
+    put::put_rects(out, rects, many);
     Written::Wrote(length)
 }

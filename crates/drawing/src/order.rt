@@ -2,7 +2,7 @@
 ghost use mathlib.Core.Path.{_≡_};
 ghost use Prim.Native.Nat.{_-_, _<_};
 ghost use Rattle.floor.specs.Lists.{all};
-ghost use Rattle.stars.specs.Held.{entryAt, cells, heldStar, starsIn};
+ghost use Rattle.stars.specs.Held.{entryAt, cells, heldStar, jobIn};
 ghost use Rattle.drawing.specs.Rects.{rectsIn};
 ghost use Rattle.drawing.specs.Tests.{ordered, starOrdered};
 
@@ -102,7 +102,7 @@ pub fn all_ordered<'a>(
 ) -> bool
     requires { ⌜ many < 65536 ⌝ }
     ensures { λ r. ⌜ r ≡ all (starOrdered (rectsIn many 0 (now (rects .entry))))
-        (starsIn count 0 (now (ends .entry)) (now (nbr .entry)) (now (kind .entry))) ⌝ }
+        (jobIn count (now (ends .entry)) (now (nbr .entry)) (now (kind .entry))) ⌝ }
 {
     let mut i: usize = 0;
     while i < count {

@@ -3,7 +3,7 @@ ghost use mathlib.Core.Path.{_≡_};
 ghost use Prim.Native.Nat.{_-_, _<_};
 ghost use Rattle.floor.specs.Lists.{all, pairwise};
 ghost use Rattle.floor.specs.Plans.{nextSide, joined};
-ghost use Rattle.stars.specs.Held.{starsIn};
+ghost use Rattle.stars.specs.Held.{jobIn};
 ghost use Rattle.drawing.specs.Rects.{rectIn, rectsIn};
 ghost use Rattle.drawing.specs.Tests.{pairOk};
 use crate::Rect;
@@ -27,7 +27,7 @@ fn joined<'a>(
     u: usize,
     v: usize,
 ) -> bool
-    ensures { λ r. ⌜ r ≡ joined (starsIn count 0 (now (ends .entry)) (now (nbr .entry)) (now (kind .entry))) u v ⌝ }
+    ensures { λ r. ⌜ r ≡ joined (jobIn count (now (ends .entry)) (now (nbr .entry)) (now (kind .entry))) u v ⌝ }
 {
     if stars::held::star_names(ends, nbr, kind, count, u, v) {
         return true;
@@ -50,7 +50,7 @@ fn pair_ok<'a>(
     r: Rect,
     s: Rect,
 ) -> bool
-    ensures { λ b. ⌜ b ≡ pairOk (starsIn count 0 (now (ends .entry)) (now (nbr .entry)) (now (kind .entry))) (rectIn r) (rectIn s) ⌝ }
+    ensures { λ b. ⌜ b ≡ pairOk (jobIn count (now (ends .entry)) (now (nbr .entry)) (now (kind .entry))) (rectIn r) (rectIn s) ⌝ }
 {
     // Most pairs lie away from one another, and nothing more is asked of them.
     if crate::rects::away(r.x1, r.x2, s.x1, s.x2) {
@@ -80,7 +80,7 @@ fn later_ok<'a>(
     r: Rect,
 ) -> bool
     requires { ⌜ many < 65536 ⌝ }
-    ensures { λ b. ⌜ b ≡ all (pairOk (starsIn count 0 (now (ends .entry)) (now (nbr .entry)) (now (kind .entry))) (rectIn r))
+    ensures { λ b. ⌜ b ≡ all (pairOk (jobIn count (now (ends .entry)) (now (nbr .entry)) (now (kind .entry))) (rectIn r))
         (rectsIn (many - first) first (now (rects .entry))) ⌝ }
 {
     let mut v = first;
@@ -104,7 +104,7 @@ pub fn all_pairs<'a>(
     many: usize,
 ) -> bool
     requires { ⌜ many < 65536 ⌝ }
-    ensures { λ b. ⌜ b ≡ pairwise (pairOk (starsIn count 0 (now (ends .entry)) (now (nbr .entry)) (now (kind .entry))))
+    ensures { λ b. ⌜ b ≡ pairwise (pairOk (jobIn count (now (ends .entry)) (now (nbr .entry)) (now (kind .entry))))
         (rectsIn many 0 (now (rects .entry))) ⌝ }
 {
     let mut v: usize = 0;

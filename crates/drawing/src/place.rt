@@ -7,11 +7,10 @@ ghost use lib.Seq.{sets};
 ghost use Rattle.floor.specs.Lists.{upFrom};
 ghost use Rattle.floor.specs.Plans.{roomRect};
 ghost use Rattle.drawing.specs.Rects.{rectIn, flat, putFour, heldPlan};
-ghost use Rattle.drawing.specs.Drawn.{frame, planOn, walled};
+ghost use Rattle.drawing.specs.Drawn.{frame, planBy, walledBy};
 use crate::Plan;
 use crate::Rect;
 use walls::Sheet;
-use walls::Walls;
 
 // The four numbers of a vertex's rectangle, put at its place.
 fn put_four(rects: &mut [u16], v: usize, x1: u16, y1: u16, x2: u16, y2: u16)
@@ -26,10 +25,10 @@ fn put_four(rects: &mut [u16], v: usize, x1: u16, y1: u16, x2: u16, y2: u16)
 }
 
 // A room spans its wall numbers.
-fn room_rect(walls: Walls, v: usize) -> Rect
-    ensures { λ r. ⌜ rectIn r ≡ walled walls v ⌝ }
+fn room_rect<'a>(xs: &'a [u16], ys: &'a [u16], v: usize) -> Rect
+    ensures { λ r. ⌜ rectIn r ≡ walledBy (now (xs .entry)) (now (ys .entry)) v ⌝ }
 {
-    let sides = walls::sides_of(walls, v);
+    let sides = walls::sides_at(xs, ys, v);
     let left = sides.left;
     let right = sides.right;
     let lower = sides.lower;
@@ -57,30 +56,30 @@ fn put_frame(rects: &mut [u16], width: u16, height: u16)
 }
 
 // The rectangles of so many rooms.
-fn put_rooms(rects: &mut [u16], walls: Walls, count: usize)
+fn put_rooms<'a>(rects: &mut [u16], xs: &'a [u16], ys: &'a [u16], count: usize)
     requires { ⌜ 4 * (count + 4) ≤ length (now rects) ⌝ }
-    ensures { λ _. ⌜ now (rects .exit) ≡ sets (now (rects .entry)) 16 (flat (map (walled walls) (upFrom 4 count))) ⌝ }
+    ensures { λ _. ⌜ now (rects .exit) ≡ sets (now (rects .entry)) 16 (flat (map (walledBy (now (xs .entry)) (now (ys .entry))) (upFrom 4 count))) ⌝ }
 {
     let mut i: usize = 0;
     while i < count {
-        let r = room_rect(walls, 4 + i);
+        let r = room_rect(xs, ys, 4 + i);
         put_four(rects, 4 + i, r.x1, r.y1, r.x2, r.y2);
         i += 1;
     }
 }
 
 // The plan of so many rooms on a sheet.
-pub fn plan_of(walls: Walls, sheet: Sheet, rooms: u8) -> Plan
-    requires { ⌜ (sheet .width ≤ 64) × (1 ≤ sheet .width) × (sheet .height ≤ 64) × (1 ≤ sheet .height) × (rooms ≤ 60) ⌝ }
-    ensures { λ r. ⌜ r ≡ heldPlan (planOn walls sheet rooms) ⌝ }
+pub fn plan_of<'a>(xs: &'a [u16], ys: &'a [u16], sheet: Sheet, count: usize) -> Plan
+    requires { ⌜ (sheet .width ≤ 64) × (1 ≤ sheet .width) × (sheet .height ≤ 64) × (1 ≤ sheet .height) × (count ≤ 60) ⌝ }
+    ensures { λ r. ⌜ r ≡ heldPlan (planBy (now (xs .entry)) (now (ys .entry)) sheet count) ⌝ }
 {
     let mut rects = crate::noughts();
     let width = sheet.width as u16;
     let height = sheet.height as u16;
     put_frame(&mut rects, width, height);
-    put_rooms(&mut rects, walls, fields::wide(rooms));
+    put_rooms(&mut rects, xs, ys, count);
     Plan {
-        rooms: rooms,
+        rooms: count as u8,
         width: width,
         height: height,
         rects: rects,

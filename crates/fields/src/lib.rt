@@ -27,6 +27,13 @@ pub fn wide(byte: u8) -> usize
     byte as usize
 }
 
+// A byte as a held number.
+pub fn word(byte: u8) -> u16
+    ensures { λ r. ⌜ r ≡ byte ⌝ }
+{
+    byte as u16
+}
+
 // A held number, made wide.
 pub fn number(x: u16) -> usize
     ensures { λ r. ⌜ (r ≡ x) × (r < 65536) ⌝ }

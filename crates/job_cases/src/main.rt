@@ -51,7 +51,7 @@ fn show_written(job: &[u8]) {
     let read = jobs::read_job(job);
     let stars = read.stars;
     let mut out = [9u8; 16];
-    let written = jobs::write_job(stars, &mut out);
+    let written = jobs::write_job(&stars.ends, &stars.nbr, &stars.kind, stars.count, &mut out);
     match written {
         Written::Wrote(length) => {
             io::write_all(1, b"wrote ");
@@ -63,7 +63,13 @@ fn show_written(job: &[u8]) {
         }
     }
     let mut short = [9u8; 14];
-    let refused = jobs::write_job(stars, &mut short);
+    let refused = jobs::write_job(
+        &stars.ends,
+        &stars.nbr,
+        &stars.kind,
+        stars.count,
+        &mut short,
+    );
     match refused {
         Written::Wrote(_) => {
             io::write_all(1, b"wrote\n");

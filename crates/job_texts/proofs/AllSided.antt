@@ -9,7 +9,7 @@ use lib.ListN.{length, getD}
 use Rattle.floor.specs.Lists.{all}
 use Rattle.floor.specs.JobTexts.{sided}
 use Rattle.stars.specs.declared.Stars.{Stars}
-use Rattle.stars.specs.Held.{entryAt, cells, startOf, endOf, heldStar, starsIn, jobOf}
+use Rattle.stars.specs.Held.{entryAt, cells, startOf, endOf, heldStar, starsIn, jobIn, jobOf}
 use Rattle.stars.proofs.Holding.{cells-more, cells-done, held-more, held-done}
 use Rattle.job_texts.specs.Writes.{starSided}
 
@@ -50,6 +50,6 @@ module _ (ends nbr kind : List ℕ) (n i : ℕ) (w : Bool) where
   unfolding all
   stars-done h inv = rw (held-done ends nbr kind n i h) at inv
 
-pub sided-stars : (h : Stars) (n : ℕ) → n ≡ h .count → all starSided (starsIn (n - 0) 0 (h .ends) (h .nbr) (h .kind)) ≡ sided (jobOf h)
+pub sided-stars : (h : Stars) (n : ℕ) → n ≡ h .count → all starSided (jobIn (n - 0) (h .ends) (h .nbr) (h .kind)) ≡ sided (jobOf h)
 unfolding sided starSided jobOf
 sided-stars h n e = let z : n - 0 ≡ h .count = omega arith in rw z

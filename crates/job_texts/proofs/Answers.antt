@@ -18,8 +18,9 @@ use Rattle.floor.specs.Texts.{decimal, line, refusedWord, tooLong}
 use Rattle.floor.specs.JobTexts.{sided, texted, textAnswer, textOf, jobText, TextRead, wrongLine, aJob, readText, jobAnswer, jobOf as textJob}
 use Rattle.floor.specs.JobTexts.Back.{bytesOnly, text-length}
 use Rattle.stars.specs.declared.Stars.{Stars}
-use Rattle.stars.specs.Held.{toAt, entryAt, cells, startOf, endOf, heldStar, starsIn, jobOf, noStars, heldOf}
+use Rattle.stars.specs.Held.{toAt, entryAt, cells, startOf, endOf, heldStar, starsIn, jobIn, jobOf, noStars, heldOf}
 use Rattle.stars.proofs.Back.{given-back}
+use Rattle.stars.proofs.Holding.{job-stars}
 use Rattle.jobs.specs.declared.Answer.the-variants.{Passed, Refused}
 use Rattle.jobs.specs.declared.Read.{Read}
 use Rattle.jobs.specs.Reads.{said, outcome, Tells}
@@ -50,26 +51,26 @@ unfolding refusedWord line plain
 refusal-short k h = omega (arith, length-append (decimal k) (10 ∷ []), decimal-short 2 k (omega arith))
 
 -- the bytes of a held job: there is room for them, so they are written
-module _ (h : Stars) (o x : List ℕ) (w : Written) (l : length (writeJob (jobOf h)) ≤ 8192) (k : length o ≡ 8192)
-    (p : (replied w ≡ writing (writeJob (jobOf h)) o .reply) × (x ≡ writing (writeJob (jobOf h)) o .buffer)) where
-  job-written : (replied w ≡ wrote (length (writeJob (jobOf h)))) × (x ≡ writeJob (jobOf h) ++ drop (length (writeJob (jobOf h))) o)
+module _ (j : Job) (o x : List ℕ) (w : Written) (l : length (writeJob j) ≤ 8192) (k : length o ≡ 8192)
+    (p : (replied w ≡ writing (writeJob j) o .reply) × (x ≡ writing (writeJob j) o .buffer)) where
+  job-written : (replied w ≡ wrote (length (writeJob j))) × (x ≡ writeJob j ++ drop (length (writeJob j)) o)
   unfolding writing writes
   job-written =
-      let z : leb (length (writeJob (jobOf h))) (length o) ≡ true = le-leb (length (writeJob (jobOf h))) (length o) (omega arith) in
+      let z : leb (length (writeJob j)) (length o) ≡ true = le-leb (length (writeJob j)) (length o) (omega arith) in
       rw z at p
 
-  pub bytes-put : (n : ℕ) → w ≡ Wrote n → (n ≡ length (writeJob (jobOf h))) × (x ≡ sets o 0 (writeJob (jobOf h))) × (n ≤ 8192)
+  pub bytes-put : (n : ℕ) → w ≡ Wrote n → (n ≡ length (writeJob j)) × (x ≡ sets o 0 (writeJob j)) × (n ≤ 8192)
   unfolding replied
   bytes-put n e =
-      let q : wrote n ≡ wrote (length (writeJob (jobOf h))) = rw e at (job-written .0) in
-      let d : n ≡ length (writeJob (jobOf h)) = cc in
-      let z : 0 + length (writeJob (jobOf h)) ≡ length (writeJob (jobOf h)) = omega arith in
-      (d, job-written .1 ∙ sym (sets-eq (writeJob (jobOf h)) o 0 (omega arith) ∙ rw z), omega arith)
+      let q : wrote n ≡ wrote (length (writeJob j)) = rw e at (job-written .0) in
+      let d : n ≡ length (writeJob j) = cc in
+      let z : 0 + length (writeJob j) ≡ length (writeJob j) = omega arith in
+      (d, job-written .1 ∙ sym (sets-eq (writeJob j) o 0 (omega arith) ∙ rw z), omega arith)
 
   pub never-short : {X : Type 0} → w ≡ TooShort → X
   unfolding replied
   never-short {X} e =
-      let q : refusal 14 ≡ wrote (length (writeJob (jobOf h))) = rw e at (job-written .0) in
+      let q : refusal 14 ≡ wrote (length (writeJob j)) = rw e at (job-written .0) in
       let z : _≡_ {A = ℕ} 0 1 = cc in
       absurd (omega arith)
 
@@ -177,14 +178,21 @@ module _ (t : List ℕ) where
         let w : Within (length t + 1) 4 360 (wrongLine (q .line) (lackOf x)) = rw (read-wrong x d) at (text-within t) in
         omega (arith, line-short (q .line) (lackOf x) (omega (arith, w .0)) (omega (arith, w .1)))
 
-    pub right-small : q .verdict ≡ Right → length (writeJob (jobOf (q .stars))) ≤ 8192
-    right-small d =
-        let w : Within (length t + 1) 4 360 (aJob (jobOf (q .stars))) = rw (read-right d) at (text-within t) in
-        omega (arith, length-writeJob (jobOf (q .stars)), w .0, w .1)
+    -- the held job, by its slices
+    abbrev job : Job
+    job = jobIn (q .stars .count) (q .stars .ends) (q .stars .nbr) (q .stars .kind)
 
-    pub right-job : length t ≤ 16384 → q .verdict ≡ Right → textJob t ≡ writeJob (jobOf (q .stars))
+    read-job : q .verdict ≡ Right → readText t ≡ aJob job
+    read-job d = rw (job-stars (q .stars) (q .stars .count) refl) (read-right d)
+
+    pub right-small : q .verdict ≡ Right → length (writeJob job) ≤ 8192
+    right-small d =
+        let w : Within (length t + 1) 4 360 (aJob job) = rw (read-job d) at (text-within t) in
+        omega (arith, length-writeJob job, w .0, w .1)
+
+    pub right-job : length t ≤ 16384 → q .verdict ≡ Right → textJob t ≡ writeJob job
     unfolding jobAnswer
-    right-job l d = rw (short-job l, read-right d)
+    right-job l d = rw (short-job l, read-job d)
 
     pub wrong-job : length t ≤ 16384 → (x : Lack) → q .verdict ≡ Wrong x → textJob t ≡ jobAnswer (wrongLine (q .line) (lackOf x))
     wrong-job l x d = rw (short-job l, read-wrong x d)

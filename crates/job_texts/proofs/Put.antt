@@ -11,7 +11,7 @@ use Rattle.floor.specs.Texts.{decimal}
 use Rattle.floor.specs.JobTexts.{sideWords, frameWords, sideWord, vertexWord, contactText, contactsText, roomText, roomsText, jobText}
 use Rattle.stars.specs.declared.Stars.{Stars}
 use Rattle.stars.specs.Pairs.{pair}
-use Rattle.stars.specs.Held.{toAt, entryAt, cells, startOf, endOf, heldStar, starsIn, jobOf}
+use Rattle.stars.specs.Held.{toAt, entryAt, cells, startOf, endOf, heldStar, starsIn, jobIn, jobOf}
 use Rattle.stars.proofs.Holding.{cells-more, cells-done, held-more, held-done}
 use Rattle.letters.specs.Puts.{Puts}
 use Rattle.letters.proofs.Rows.{none-put, both-puts}
@@ -102,6 +102,6 @@ module _ (ends nbr kind : List ℕ) (n i : ℕ) {o w x : List ℕ} {at m : ℕ} 
 
 -- nothing written yet
 pub rooms-first : (s : Stars) {o : List ℕ} (n : ℕ) → n ≡ s .count
-    → Left o 0 (jobText (jobOf s)) o 0 (roomsText (4 + 0) (starsIn (n - 0) 0 (s .ends) (s .nbr) (s .kind)))
+    → Left o 0 (jobText (jobOf s)) o 0 (roomsText (4 + 0) (jobIn (n - 0) (s .ends) (s .nbr) (s .kind)))
 unfolding jobText jobOf
 rooms-first s n e y r p = let z : n - 0 ≡ s .count = omega arith in rw z at p

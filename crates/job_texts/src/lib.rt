@@ -5,7 +5,7 @@ ghost use lib.ListN.{length};
 ghost use lib.Seq.{sets};
 ghost use Rattle.floor.specs.Jobs.{writeJob};
 ghost use Rattle.floor.specs.JobTexts.{textOf, jobOf};
-ghost use Rattle.stars.specs.Held.{jobOf as heldJob};
+ghost use Rattle.stars.specs.Held.{jobIn};
 use fields::Written;
 use jobs::Answer;
 use stars::Stars;
@@ -74,11 +74,19 @@ pub fn text_of(job: &[u8], out: &mut [u8; 8192]) -> usize
 }
 
 // The bytes of a held job, at the front; how many they are is handed back.
-fn put_bytes(stars: Stars, out: &mut [u8; 8192]) -> usize
-    requires { ⌜ length (writeJob (heldJob stars)) ≤ 8192 ⌝ }
-    ensures { λ r. ⌜ (r ≡ length (writeJob (heldJob stars))) × (now (out .exit) ≡ sets (now (out .entry)) 0 (writeJob (heldJob stars))) × (r ≤ 8192) ⌝ }
+fn put_bytes<'a>(
+    ends: &'a [u16],
+    nbr: &'a [u16; 360],
+    kind: &'a [u8],
+    count: u8,
+    out: &mut [u8; 8192],
+) -> usize
+    requires { ⌜ length (writeJob (jobIn count (now ends) (now nbr) (now kind))) ≤ 8192 ⌝ }
+    ensures { λ r. ⌜ (r ≡ length (writeJob (jobIn count (now (ends .entry)) (now (nbr .entry)) (now (kind .entry)))))
+        × (now (out .exit) ≡ sets (now (out .entry)) 0 (writeJob (jobIn count (now (ends .entry)) (now (nbr .entry)) (now (kind .entry)))))
+        × (r ≤ 8192) ⌝ }
 {
-    let written = jobs::write_job(stars, out);
+    let written = jobs::write_job(ends, nbr, kind, count, out);
     match written {
         Written::Wrote(n) => n,
         Written::TooShort => 0,
@@ -97,7 +105,7 @@ pub fn job_of(text: &[u8], out: &mut [u8; 8192]) -> usize
     let verdict = read.verdict;
     let stars = read.stars;
     match verdict {
-        Verdict::Right => put_bytes(stars, out),
+        Verdict::Right => { put_bytes(&stars.ends, &stars.nbr, &stars.kind, stars.count, out) }
         Verdict::Wrong(lack) => wrong::put_wrong(out, read.line, lack),
     }
 }

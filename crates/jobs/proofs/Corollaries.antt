@@ -47,10 +47,10 @@ pub one-raw-star : (bs : List ℕ) (v : ℕ) (r t : List ℕ) → r ≡ rawStar 
 one-raw-star bs v r t p q = one-answer r t (rawStar bs v) p q
 
 -- THE PROMISE OF `write_job` ALLOWS ONE ANSWER AND ONE BUFFER
-pub one-writing : (h : Stars) (o : List ℕ) (a b : Written) (x y : List ℕ)
-    → (replied a ≡ writing (writeJob (jobOf h)) o .reply) × (x ≡ writing (writeJob (jobOf h)) o .buffer)
-    → (replied b ≡ writing (writeJob (jobOf h)) o .reply) × (y ≡ writing (writeJob (jobOf h)) o .buffer) → (a ≡ b) × (x ≡ y)
-one-writing h o a b x y p q = one-written (writeJob (jobOf h)) o a b x y p q
+pub one-writing : (j : Job) (o : List ℕ) (a b : Written) (x y : List ℕ)
+    → (replied a ≡ writing (writeJob j) o .reply) × (x ≡ writing (writeJob j) o .buffer)
+    → (replied b ≡ writing (writeJob j) o .reply) × (y ≡ writing (writeJob j) o .buffer) → (a ≡ b) × (x ≡ y)
+one-writing j o a b x y p q = one-written (writeJob j) o a b x y p q
 
 -- THE HELD JOB IS THE ONE THAT WAS READ
 pub held-is-read : (bs : List ℕ) (r : Read) → Tells r (firstSix (readJob bs)) → r .answer ≡ Passed → readJob bs ≡ reads (jobOf (r .stars))

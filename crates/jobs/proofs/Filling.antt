@@ -3,7 +3,7 @@ use Prim.Native.Nat.{ℕ, suc, _+_, _-_, _*_, _/_, _<_, _≤_}
 use mathlib.Core.Path.{_≡_}
 use mathlib.Core.List.{List, map}
 use native.Mathlib.Omega.{arith}
-use lib.ListN.{length, drop, set}
+use lib.ListN.{length, drop, set, length-replicate}
 use lib.Seq.{sets}
 use Rattle.floor.specs.Lists.{sum}
 use Rattle.floor.specs.Fields.{readField, valueOf, restOf}
@@ -27,19 +27,28 @@ module _ (g : Entry → ℕ) (s a w : List ℕ) (m i : ℕ) where
   pub fill-done : sets a (m + i) (map g (entries (drop (2 * i) s))) ≡ w → length s / 2 ≤ i → a ≡ w
   fill-done inv h = rw (entries-done s (2 * i) (omega arith)) at inv
 
-pub star-put : (h : Stars) (m : ℕ) (s x y z : List ℕ) (n : ℕ) → n ≡ h .count → x ≡ sets (h .nbr) m (map toOf (entries s))
-    → y ≡ sets (h .kind) m (map kindOf (entries s)) → z ≡ h .ends
-    → record { count = h .count + 1; ends = set z n (m + length s / 2); nbr = x; kind = y } ≡ putStar h m (entries s)
+-- so many stars, by where they end and by their entries
+abbrev pub laid : ℕ → List ℕ → List ℕ → List ℕ → Stars
+laid i ends nbr kind = record { count = i; ends = ends; nbr = nbr; kind = kind }
+
+star-put : (m i : ℕ) (s ends nbr kind x y : List ℕ) → x ≡ sets nbr m (map toOf (entries s)) → y ≡ sets kind m (map kindOf (entries s))
+    → laid (i + 1) (set ends i (m + length s / 2)) x y ≡ putStar (laid i ends nbr kind) m (entries s)
 unfolding putStar
-star-put h m s x y z n e ex ey ez = rw (entries-length s, ← ex, ← ey, ← ez, e)
+star-put m i s ends nbr kind x y ex ey = rw (entries-length s, ← ex, ← ey)
 
 -- the stars of a job, put one by one
 module _ (s : List ℕ) (n i at m : ℕ) (v : List ℕ) where
-  pub room-here : i < n → v ≡ valueOf (readField (drop at s)) → m + pairsIn (starsAt (n - i) (drop at s)) ≤ 360 → m + length v / 2 ≤ 360
+  room-here : i < n → v ≡ valueOf (readField (drop at s)) → m + pairsIn (starsAt (n - i) (drop at s)) ≤ 360 → m + length v / 2 ≤ 360
   unfolding pairsIn sum
   room-here h e k =
       let k′ = rw (next-star s n i at h, ← e) at k in
       omega (arith, entries-length v)
+
+  pub room-in : (l : ℕ) → i < n → v ≡ valueOf (readField (drop at s)) → m + pairsIn (starsAt (n - i) (drop at s)) ≤ 360 → l ≡ 360 → m + length v / 2 ≤ l
+  room-in l h e k q = omega (arith, room-here h e k)
+
+  pub room-word : i < n → v ≡ valueOf (readField (drop at s)) → m + pairsIn (starsAt (n - i) (drop at s)) ≤ 360 → m + length v / 2 < 65536
+  room-word h e k = omega (arith, room-here h e k)
 
   pub room-behind : (x : ℕ) → i < n → v ≡ valueOf (readField (drop at s)) → x ≡ length s - length (restOf (readField (drop at s)))
       → m + pairsIn (starsAt (n - i) (drop at s)) ≤ 360 → m + length v / 2 + pairsIn (starsAt (n - (i + 1)) (drop x s)) ≤ 360
@@ -48,24 +57,34 @@ module _ (s : List ℕ) (n i at m : ℕ) (v : List ℕ) where
       let k′ = rw (next-star s n i at h, ← e, behind s n i at x p) at k in
       omega (arith, entries-length v)
 
-  module _ (a w : Stars) where
-    pub hold-next : (b : Stars) (x : ℕ) → i < n → v ≡ valueOf (readField (drop at s)) → x ≡ length s - length (restOf (readField (drop at s)))
-        → b ≡ putStar a m (entries v) → putAll a m (starsAt (n - i) (drop at s)) ≡ w → putAll b (m + length v / 2) (starsAt (n - (i + 1)) (drop x s)) ≡ w
+  module _ (w : Stars) (ends nbr kind : List ℕ) where
+    pub hold-next : (x : ℕ) (tos kinds : List ℕ) → i < n → v ≡ valueOf (readField (drop at s)) → x ≡ length s - length (restOf (readField (drop at s)))
+        → tos ≡ sets nbr m (map toOf (entries v)) → kinds ≡ sets kind m (map kindOf (entries v))
+        → putAll (laid i ends nbr kind) m (starsAt (n - i) (drop at s)) ≡ w
+        → putAll (laid (i + 1) (set ends i (m + length v / 2)) tos kinds) (m + length v / 2) (starsAt (n - (i + 1)) (drop x s)) ≡ w
     unfolding putAll
-    hold-next b x h e p q inv =
+    hold-next x tos kinds h e p et ek inv =
         let inv′ = rw (next-star s n i at h, ← e, behind s n i at x p) at inv in
-        rw (q, ← entries-length v) inv′
-
-pub count-put : (a b : Stars) (m i : ℕ) (v : List ℕ) → a .count ≡ i → b ≡ putStar a m (entries v) → b .count ≡ i + 1
-unfolding putStar
-count-put a b m i v e q = rw (q, e)
+        rw (star-put m i v ends nbr kind tos kinds et ek, ← entries-length v) inv′
 
 -- nothing put yet
 pub hold-first : (s : List ℕ) (n c at : ℕ) (a : Stars) → a ≡ noStars → c ≡ n → pairsIn (starsAt n (drop at s)) ≤ 360
-    → (a .count ≡ 0) × (0 + pairsIn (starsAt (c - 0) (drop at s)) ≤ 360) × (putAll a 0 (starsAt (c - 0) (drop at s)) ≡ heldOf (starsAt n (drop at s)))
+    → (0 ≤ c) × (length (a .ends) ≡ 60) × (length (a .nbr) ≡ 360) × (length (a .kind) ≡ 360) × (0 + pairsIn (starsAt (c - 0) (drop at s)) ≤ 360)
+    × (putAll (laid 0 (a .ends) (a .nbr) (a .kind)) 0 (starsAt (c - 0) (drop at s)) ≡ heldOf (starsAt n (drop at s)))
 unfolding noStars heldOf
-hold-first s n c at a e q h = let z : c - 0 ≡ n = omega arith in (rw e, rw z (omega arith), rw (z, e))
+hold-first s n c at a e q h =
+    let z : c - 0 ≡ n = omega arith in (
+      omega arith,
+      rw e (length-replicate {A = ℕ} 60 0),
+      rw e (length-replicate {A = ℕ} 360 0),
+      rw e (length-replicate {A = ℕ} 360 0),
+      rw z (omega arith),
+      rw (z, e),
+    )
 
-pub hold-done : (s : List ℕ) (n i at m : ℕ) (a w : Stars) → n ≤ i → putAll a m (starsAt (n - i) (drop at s)) ≡ w → a ≡ w
+pub hold-done : (s : List ℕ) (n c i at m : ℕ) (ends nbr kind : List ℕ) (w : Stars) → c ≡ n → c ≤ i → i ≤ c
+    → putAll (laid i ends nbr kind) m (starsAt (c - i) (drop at s)) ≡ w → laid n ends nbr kind ≡ w
 unfolding putAll
-hold-done s n i at m a w h inv = rw (no-star s n i at h) at inv
+hold-done s n c i at m ends nbr kind w e l k inv =
+    let z : n ≡ i = omega arith in
+    rw z (rw (no-star s c i at l) at inv)

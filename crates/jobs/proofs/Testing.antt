@@ -15,7 +15,8 @@ use Rattle.floor.specs.Jobs.{Job, isVertex, isRoom, pairsIn, starOk, test2, tes
 use Rattle.floor.specs.Jobs.{entries, firstThree, rawFrom, rawStar}
 use Rattle.stars.specs.declared.Stars.{Stars}
 use Rattle.stars.specs.Rooms.{allFrom}
-use Rattle.stars.specs.Held.{jobOf, noStars, heldOf}
+use Rattle.stars.specs.Held.{jobIn, jobOf, noStars, heldOf}
+use Rattle.stars.proofs.Holding.{job-stars}
 use Rattle.stars.proofs.EveryRoom.{test4-stars}
 use Rattle.stars.proofs.Back.{small, given-back, job-back}
 use Rattle.jobs.specs.declared.Shape.{Shape}
@@ -107,12 +108,13 @@ module _ (s : List ℕ) (n at : ℕ) where
           tells-5 e nb = rw (test3-yes h, ← test4-walked a ea, not-false a na, ← test5-walked b eb, not-true b nb) e
 
   module _ (p : ℕ) (few : n ≤ 60) (count : p ≡ pairsIn job) (h : p ≤ 360) (a b d : Bool) (ea : a ≡ allFrom (entriesOk n) 4 job) (na : not a ≡ false)
-      (eb : b ≡ all starOk job) (nb : not b ≡ false) (g : Stars) (eg : g ≡ heldOf job) (ed : d ≡ test6 (jobOf g)) where
+      (eb : b ≡ all starOk job) (nb : not b ≡ false) (g : Stars) (eg : g ≡ heldOf job) (y : ℕ) (ey : y ≡ g .count)
+      (ed : d ≡ test6 (jobIn y (g .ends) (g .nbr) (g .kind))) where
     same-job : jobOf g ≡ job
     same-job = rw eg (job-back job (omega (arith, stars-length n (drop at s))) (omega arith) (sym (test4-walked a ea) ∙ not-false a na))
 
     test6-held : d ≡ test6 job
-    test6-held = rw same-job at ed
+    test6-held = ed ∙ ap test6 (job-stars g y ey ∙ same-job)
 
     pub tells-6 : (x : Read) → Tells x (fails 6) → not d ≡ true → Tells x (firstSix (reads job))
     unfolding firstSix passing

@@ -1,6 +1,6 @@
 -- The held stars, written field by field, as the code comes by them. Assumes nothing.
-use Prim.Native.Nat.{ℕ, zero, suc, _+_, _-_, _*_, _<_, _≤_}
-use mathlib.Core.Path.{_≡_, refl, sym, _∙_, ap}
+use Prim.Native.Nat.{ℕ, suc, _+_, _-_, _*_, _<_, _≤_}
+use mathlib.Core.Path.{_≡_, refl, sym, _∙_}
 use mathlib.Core.List.{List, [], _∷_, _++_}
 use native.Mathlib.Omega.{arith}
 use borrow.Author.Tests.{le-leb}
@@ -12,9 +12,8 @@ use Rattle.floor.specs.Jobs.{starBytes, writeStars, writeJob}
 use Rattle.floor.specs.Jobs.Written.{length-starBytes}
 use Rattle.floor.specs.Calls.{writes}
 use Rattle.fields.specs.Found.{withHead}
-use Rattle.stars.specs.declared.Stars.{Stars}
-use Rattle.stars.specs.Held.{toAt, entryAt, cells, startOf, endOf, heldStar, starsIn, jobOf}
-use Rattle.stars.proofs.Holding.{length-stars, held-more, held-done}
+use Rattle.stars.specs.Held.{toAt, entryAt, cells, startOf, endOf, heldStar, starsIn, jobIn}
+use Rattle.stars.proofs.Holding.{length-stars, length-cells, held-more, held-done}
 use Rattle.fields.specs.declared.Written.the-variants.{Wrote, TooShort}
 use Rattle.fields.specs.Writes.{replied, writing}
 use Rattle.fields.proofs.Puts.{sets-append, short-writes, front-writes}
@@ -38,11 +37,6 @@ module _ (o w nbr kind : List ℕ) (at from m i : ℕ) where
   put-done inv h =
       let e : m - i ≡ 0 = omega arith in
       rw e at inv
-
-pub length-cells : (m k : ℕ) (nbr kind : List ℕ) → length (cells m k nbr kind) ≡ m
-unfolding cells
-length-cells zero k nbr kind = refl
-length-cells (suc m) k nbr kind = ap suc (length-cells m (suc k) nbr kind)
 
 -- the field of one star
 module _ (ends nbr kind : List ℕ) (i : ℕ) where
@@ -111,43 +105,41 @@ module _ (ends nbr kind : List ℕ) (n i : ℕ) (h : n ≤ i) where
   total-done t l k = (omega arith) ∙ (rw no-field at k)
 
 -- the whole job
-module _ (h : Stars) where
-  pub job-stars : (n : ℕ) → n ≡ h .count → starsIn n 0 (h .ends) (h .nbr) (h .kind) ≡ jobOf h
-  unfolding jobOf
-  job-stars n e = rw e
+module _ (n : ℕ) (ends nbr kind : List ℕ) where
+  -- its bytes
+  abbrev bytes : List ℕ
+  bytes = writeJob (jobIn n ends nbr kind)
 
-  job-count : length (jobOf h) ≡ h .count
-  unfolding jobOf
-  job-count = length-stars (h .count) 0 (h .ends) (h .nbr) (h .kind)
-
-  job-bytes : writeJob (jobOf h) ≡ 1 ∷ 0 ∷ 1 ∷ h .count ∷ writeStars (jobOf h)
+  job-bytes : bytes ≡ 1 ∷ 0 ∷ 1 ∷ n ∷ writeStars (jobIn n ends nbr kind)
   unfolding writeJob writeField
-  job-bytes = rw job-count
+  job-bytes = rw (length-stars n 0 ends nbr kind)
 
-  pub length-job : length (writeJob (jobOf h)) ≡ 4 + length (writeStars (jobOf h))
+  pub length-job : length bytes ≡ 4 + length (writeStars (jobIn n ends nbr kind))
   length-job = rw job-bytes (omega arith)
 
-  pub total-first : (n : ℕ) → n ≡ h .count → 4 + length (writeStars (starsIn (n - 0) 0 (h .ends) (h .nbr) (h .kind))) ≡ length (writeJob (jobOf h))
-  total-first n e =
+  pub total-first : 4 + length (writeStars (jobIn (n - 0) ends nbr kind)) ≡ length bytes
+  total-first =
       let z : n - 0 ≡ n = omega arith in
-      rw (z, job-stars n e) (sym length-job)
+      rw z (sym length-job)
 
-  pub put-first : (o : List ℕ) (n at : ℕ) → n ≡ h .count → at + length (writeStars (jobOf h)) ≤ length o
-      → (length o ≡ length o) × (at + length (writeStars (starsIn (n - 0) 0 (h .ends) (h .nbr) (h .kind))) ≤ length o)
-      × (sets o at (writeStars (starsIn (n - 0) 0 (h .ends) (h .nbr) (h .kind))) ≡ sets o at (writeStars (jobOf h)))
-  put-first o n at e k =
+  pub put-first : (o : List ℕ) (at : ℕ) → at + length (writeStars (jobIn n ends nbr kind)) ≤ length o
+      → (length o ≡ length o) × (at + length (writeStars (jobIn (n - 0) ends nbr kind)) ≤ length o)
+      × (sets o at (writeStars (jobIn (n - 0) ends nbr kind)) ≡ sets o at (writeStars (jobIn n ends nbr kind)))
+  put-first o at k =
       let z : n - 0 ≡ n = omega arith in
-      (refl, rw (z, job-stars n e) k, rw (z, job-stars n e))
+      (refl, rw z k, rw z)
 
-  module _ (o : List ℕ) (l : ℕ) (e : l ≡ length (writeJob (jobOf h))) where
-    pub write-short : length o < l
-        → (replied TooShort ≡ writing (writeJob (jobOf h)) o .reply) × (o ≡ writing (writeJob (jobOf h)) o .buffer)
-    write-short k = short-writes (writeJob (jobOf h)) o (omega arith)
+  module _ (m : ℕ) (em : m ≡ n) (o : List ℕ) (l : ℕ) (e : l ≡ length (writeJob (jobIn m ends nbr kind))) where
+    is-length : l ≡ length bytes
+    is-length = rw em at e
 
-    pub write-done : (x y : List ℕ) → y ≡ withHead o 0 1 1 → x ≡ sets (set y 3 (h .count)) 4 (writeStars (jobOf h)) → l ≤ length o
-        → (replied (Wrote l) ≡ writing (writeJob (jobOf h)) o .reply) × (x ≡ writing (writeJob (jobOf h)) o .buffer)
+    pub write-short : length o < l → (replied TooShort ≡ writing bytes o .reply) × (o ≡ writing bytes o .buffer)
+    write-short k = short-writes bytes o (omega (arith, is-length))
+
+    pub write-done : (x y : List ℕ) → y ≡ withHead o 0 1 1 → x ≡ sets (set y 3 n) 4 (writeStars (jobIn m ends nbr kind)) → l ≤ length o
+        → (replied (Wrote l) ≡ writing bytes o .reply) × (x ≡ writing bytes o .buffer)
     unfolding withHead
     write-done x y ey ex k =
-        let r : 0 + 3 ≤ length o = omega (arith, length-job) in
-        let f : x ≡ sets o 0 (writeJob (jobOf h)) = ex ∙ rw (ey, le-leb (0 + 3) (length o) r, job-bytes) in
-        front-writes (writeJob (jobOf h)) o x l e f (omega arith)
+        let r : 0 + 3 ≤ length o = omega (arith, is-length, length-job) in
+        let f : x ≡ sets o 0 bytes = ex ∙ rw (ey, le-leb (0 + 3) (length o) r, em, job-bytes) in
+        front-writes bytes o x l is-length f (omega (arith, is-length))

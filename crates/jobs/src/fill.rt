@@ -1,9 +1,11 @@
 // The stars of a job's bytes, held one behind the other.
 ghost use mathlib.Core.Path.{_≡_};
-ghost use Prim.Native.Nat.{_+_, _/_, _≤_, _<_};
+ghost use mathlib.Core.List.{map};
+ghost use Prim.Native.Nat.{_+_, _/_, _≤_};
 ghost use lib.ListN.{length, drop};
+ghost use lib.Seq.{sets};
 ghost use Rattle.floor.specs.Jobs.{entries, pairsIn};
-ghost use Rattle.stars.specs.Held.{putStar, heldOf};
+ghost use Rattle.stars.specs.Held.{toOf, kindOf, heldOf};
 ghost use Rattle.jobs.specs.Shapes.{starsAt};
 use stars::Stars;
 
@@ -14,24 +16,19 @@ fn neighbour(byte: u8) -> u16
     byte as u16
 }
 
-// One star more, its entries from place m on.
-fn put_star(held: Stars, m: usize, star: &[u8]) -> Stars
-    requires { ⌜ (held .count < 60) × (m + length (now star) / 2 ≤ 360) ⌝ }
-    ensures { λ r. ⌜ r ≡ putStar held m (entries (now (star .entry))) ⌝ }
+// The entries of one star, put from place m on.
+fn put_star(nbr: &mut [u16], kind: &mut [u8], m: usize, star: &[u8])
+    requires { ⌜ (m + length (now star) / 2 ≤ length (now nbr)) × (m + length (now star) / 2 ≤ length (now kind)) ⌝ }
+    ensures { λ _. ⌜ (now (nbr .exit) ≡ sets (now (nbr .entry)) m (map toOf (entries (now (star .entry)))))
+        × (now (kind .exit) ≡ sets (now (kind .entry)) m (map kindOf (entries (now (star .entry))))) ⌝ }
 {
-    let n = held.count;
-    let last = fields::wide(n);
     let k = star.len() / 2;
-    let mut more = held;
     let mut i: usize = 0;
     while i < k {
-        more.nbr[m + i] = neighbour(star[2 * i]);
-        more.kind[m + i] = star[2 * i + 1];
+        nbr[m + i] = neighbour(star[2 * i]);
+        kind[m + i] = star[2 * i + 1];
         i += 1;
     }
-    more.ends[last] = (m + k) as u16;
-    more.count = n + 1;
-    more
 }
 
 // The n stars from a place on, held.
@@ -40,17 +37,25 @@ pub fn hold(job: &[u8], from: usize, n: u8) -> Stars
     ensures { λ r. ⌜ r ≡ heldOf (starsAt n (drop from (now (job .entry)))) ⌝ }
 {
     let count = fields::wide(n);
-    let mut held = stars::held::none_held();
+    let none = stars::held::none_held();
+    let mut ends = none.ends;
+    let mut nbr = none.nbr;
+    let mut kind = none.kind;
     let mut m: usize = 0;
     let mut at = from;
     let mut i: usize = 0;
     while i < count {
         let star = fields::value_at(job, at);
-        let more = put_star(held, m, star);
-        held = more;
+        put_star(&mut nbr, &mut kind, m, star);
         m += star.len() / 2;
+        ends[i] = m as u16;
         at = fields::after_at(job, at);
         i += 1;
     }
-    held
+    Stars {
+        count: n,
+        ends: ends,
+        nbr: nbr,
+        kind: kind,
+    }
 }

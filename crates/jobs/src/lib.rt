@@ -2,7 +2,7 @@
 ghost use mathlib.Core.Path.{_≡_};
 ghost use Rattle.floor.specs.Jobs.{readJob, rawStar, firstThree, firstSix, writeJob};
 ghost use Rattle.jobs.specs.Reads.{Tells};
-ghost use Rattle.stars.specs.Held.{jobOf};
+ghost use Rattle.stars.specs.Held.{jobIn};
 ghost use Rattle.fields.specs.Writes.{replied, writing};
 use fields::Written;
 use stars::Stars;
@@ -78,16 +78,23 @@ pub fn raw_star(job: &[u8], room: usize) -> &[u8]
 }
 
 // The held job, written to the front of a lent buffer; nothing behind it is touched, and nothing at all where it is too short.
-pub fn write_job(stars: Stars, out: &mut [u8]) -> Written
-    ensures { λ r. ⌜ (replied r ≡ writing (writeJob (jobOf stars)) (now (out .entry)) .reply)
-        × (now (out .exit) ≡ writing (writeJob (jobOf stars)) (now (out .entry)) .buffer) ⌝ }
+pub fn write_job<'a>(
+    ends: &'a [u16],
+    nbr: &'a [u16; 360],
+    kind: &'a [u8],
+    count: u8,
+    out: &mut [u8],
+) -> Written
+    ensures { λ r. ⌜ (replied r ≡ writing (writeJob (jobIn count (now (ends .entry)) (now (nbr .entry)) (now (kind .entry)))) (now (out .entry)) .reply)
+        × (now (out .exit) ≡ writing (writeJob (jobIn count (now (ends .entry)) (now (nbr .entry)) (now (kind .entry)))) (now (out .entry)) .buffer) ⌝ }
 {
-    let length = put::job_length(stars);
+    let many = fields::wide(count);
+    let length = put::job_length(ends, nbr, many);
     if out.len() < length {
         return Written::TooShort;
     }
     fields::put_head(out, 0, 1, 1);
-    out[3] = stars.count;
-    put::put_stars(out, stars, 4);
+    out[3] = count;
+    put::put_stars(out, 4, ends, nbr, kind, many);
     Written::Wrote(length)
 }

@@ -1,12 +1,12 @@
 // The held stars, written as fields into a lent buffer.
 ghost use mathlib.Core.Path.{_≡_};
-ghost use Prim.Native.Nat.{_+_, _-_, _*_, _≤_, _<_};
+ghost use mathlib.Core.List.{List};
+ghost use Prim.Native.Nat.{ℕ, _+_, _-_, _*_, _≤_, _<_};
 ghost use lib.ListN.{length};
 ghost use lib.Seq.{sets};
 ghost use Rattle.floor.specs.Jobs.{starBytes, writeStars, writeJob};
-ghost use Rattle.stars.specs.Held.{cells, startOf, endOf, jobOf};
+ghost use Rattle.stars.specs.Held.{cells, startOf, endOf, jobIn};
 ghost use Rattle.jobs.specs.Writes.{starField};
-use stars::Stars;
 
 // The m entries from a place on, written.
 fn put_pairs<'a>(out: &mut [u8], at: usize, nbr: &'a [u16], kind: &'a [u8], from: usize, m: usize)
@@ -44,28 +44,34 @@ fn put_field<'a>(
 }
 
 // Every star's field, written from a place on.
-pub fn put_stars(out: &mut [u8], stars: Stars, from: usize)
-    requires { ⌜ from + length (writeStars (jobOf stars)) ≤ length (now out) ⌝ }
-    ensures { λ _. ⌜ now (out .exit) ≡ sets (now (out .entry)) from (writeStars (jobOf stars)) ⌝ }
+pub fn put_stars<'a>(
+    out: &mut [u8],
+    from: usize,
+    ends: &'a [u16],
+    nbr: &'a [u16],
+    kind: &'a [u8],
+    count: usize,
+)
+    requires { ⌜ (length (now nbr) ≡ 360) × («from» + length (writeStars (jobIn count (now ends) (now nbr) (now kind))) ≤ length (now out)) ⌝ }
+    ensures { λ _. ⌜ now (out .exit) ≡ sets (now (out .entry)) «from» (writeStars (jobIn count (now (ends .entry)) (now (nbr .entry)) (now (kind .entry)))) ⌝ }
 {
-    let count = fields::wide(stars.count);
     let mut at = from;
     let mut i: usize = 0;
     while i < count {
-        at = put_field(out, at, &stars.ends, &stars.nbr, &stars.kind, i);
+        at = put_field(out, at, ends, nbr, kind, i);
         i += 1;
     }
 }
 
-// How many bytes the job takes.
-pub fn job_length(stars: Stars) -> usize
-    ensures { λ r. ⌜ r ≡ length (writeJob (jobOf stars)) ⌝ }
+// How many bytes the job takes, whatever the kinds.
+pub fn job_length<'a>(ends: &'a [u16], nbr: &'a [u16], count: usize) -> usize
+    requires { ⌜ (length (now nbr) ≡ 360) × (count < 256) ⌝ }
+    ensures { λ r. ⌜ ((kind : List ℕ) → r ≡ length (writeJob (jobIn count (now (ends .entry)) (now (nbr .entry)) kind))) ⌝ }
 {
-    let count = fields::wide(stars.count);
     let mut total: usize = 4;
     let mut i: usize = 0;
     while i < count {
-        total += 3 + 2 * stars::held::star_length(&stars.ends, &stars.nbr, i);
+        total += 3 + 2 * stars::held::star_length(ends, nbr, i);
         i += 1;
     }
     total

@@ -52,7 +52,12 @@ pub fn tested(job: &[u8], n: u8, at: usize, pairs: usize) -> Read
         return refused(5);
     }
     let stars = crate::fill::hold(job, at, n);
-    if !stars::held::answered(stars) {
+    if !stars::held::answered(
+        &stars.ends,
+        &stars.nbr,
+        &stars.kind,
+        fields::word(stars.count),
+    ) {
         return refused(6);
     }
     Read {

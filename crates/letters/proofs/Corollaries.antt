@@ -3,7 +3,7 @@ use Prim.Native.Nat.{ℕ, _≤_}
 use mathlib.Core.Path.{_≡_, sym, ap, _∙_}
 use mathlib.Core.List.{List}
 use native.Mathlib.Omega.{arith}
-use lib.ListN.{length}
+use lib.ListN.{length, replicate, length-replicate}
 use lib.Seq.{sets, length-sets}
 use Rattle.letters.specs.Puts.{Puts}
 
@@ -17,8 +17,9 @@ module _ (t o : List ℕ) where
       → (r ≡ s) × (x ≡ y)
   one-text r s x y p q = (p .0 ∙ sym (q .0), p .1 ∙ sym (q .1))
 
-  -- what is put lies within the buffer
-  pub text-fits : (r : ℕ) (x : List ℕ) → (r ≡ length t) × (x ≡ sets o 0 t) × (r ≤ 8192) → length o ≡ 8192 → r ≤ length x
-  text-fits r x p l =
+  -- what is put lies within the page
+  pub text-fits : (r : ℕ) (x : List ℕ) → (r ≡ length t) × (x ≡ sets o 0 t) × (r ≤ 8192) → o ≡ replicate 8192 0 → r ≤ length x
+  text-fits r x p e =
       let k : length x ≡ length o = ap (λ (y : List ℕ). length y) (p .1) ∙ length-sets o 0 t in
+      let l : length o ≡ 8192 = ap (λ (y : List ℕ). length y) e ∙ length-replicate {A = ℕ} 8192 0 in
       omega (arith, p .2, l, k)

@@ -11,7 +11,7 @@ use Rattle.floor.specs.Lists.{all, any}
 use Rattle.floor.specs.Jobs.{Star, Job, opposite, starOf, names, lists, test6}
 use Rattle.stars.specs.declared.Stars.{Stars}
 use Rattle.stars.specs.Rooms.{allFrom}
-use Rattle.stars.specs.Held.{toAt, entryAt, cells, endOf, startOf, heldStar, starsIn, jobOf, placeIn, answers, starAnswers}
+use Rattle.stars.specs.Held.{toAt, entryAt, cells, endOf, startOf, heldStar, starsIn, jobIn, jobOf, placeIn, answers, starAnswers}
 use Rattle.stars.proofs.EveryRoom.{test6-stars}
 
 -- numbers past the end of an array
@@ -111,6 +111,12 @@ star-in (suc m) i (suc k) ends nbr kind h =
     let e : i + suc k ≡ suc i + k = omega arith in
     rw e (star-in m (suc i) k ends nbr kind (omega arith))
 
+-- as many entries, and as many stars, as are asked for
+pub length-cells : (m k : ℕ) (nbr kind : List ℕ) → length (cells m k nbr kind) ≡ m
+unfolding cells
+length-cells zero k nbr kind = refl
+length-cells (suc m) k nbr kind = ap suc (length-cells m (suc k) nbr kind)
+
 pub length-stars : (m i : ℕ) (ends nbr kind : List ℕ) → length (starsIn m i ends nbr kind) ≡ m
 unfolding starsIn
 length-stars zero i ends nbr kind = refl
@@ -119,7 +125,7 @@ length-stars (suc m) i ends nbr kind = ap suc (length-stars m (suc i) ends nbr k
 -- the star of a vertex
 module _ (ends nbr kind : List ℕ) (n v u want : ℕ) where
   abbrev job : Job
-  job = starsIn n 0 ends nbr kind
+  job = jobIn n ends nbr kind
 
   side-star : v < 4 → starOf job v ≡ []
   unfolding starOf
@@ -183,16 +189,16 @@ names-place (suc m) k nbr kind v = go (eqb (toAt nbr k) v) (names-place m (suc k
     go false h = let s : k + suc m ≡ suc k + m = omega arith in rw s h
 
 module _ (ends nbr kind : List ℕ) (n v u : ℕ) where
-  pub side-names : v < 4 → false ≡ names (starOf (starsIn n 0 ends nbr kind) v) u
+  pub side-names : v < 4 → false ≡ names (starOf (jobIn n ends nbr kind) v) u
   unfolding names any
   side-names h = rw (side-star ends nbr kind n v u 0 h)
 
-  pub none-names : 4 ≤ v → n ≤ v - 4 → false ≡ names (starOf (starsIn n 0 ends nbr kind) v) u
+  pub none-names : 4 ≤ v → n ≤ v - 4 → false ≡ names (starOf (jobIn n ends nbr kind) v) u
   unfolding names any
   none-names h k = rw (none-star ends nbr kind n v u 0 h k)
 
   pub room-names : (x y p : ℕ) → 4 ≤ v → v - 4 < n → x ≡ startOf ends (length nbr) (v - 4) → y ≡ endOf ends (length nbr) (v - 4)
-      → p ≡ placeIn (y - x) x nbr u → ltb p y ≡ names (starOf (starsIn n 0 ends nbr kind) v) u
+      → p ≡ placeIn (y - x) x nbr u → ltb p y ≡ names (starOf (jobIn n ends nbr kind) v) u
   unfolding names any cells placeIn
   room-names x y p h k ex ey e = rw (room-star ends nbr kind n v u 0 x y h k ex ey) (go (leb x y) refl)
     where
@@ -256,7 +262,15 @@ module _ (p : ℕ → Star → Bool) (ends nbr kind : List ℕ) (n i : ℕ) (w :
   unfolding allFrom
   stars-done h inv = rw (held-done ends nbr kind n i h) at inv
 
-pub test6-held : (h : Stars) (r : Bool) (n : ℕ) → n ≡ h .count
-    → r ≡ allFrom (starAnswers (starsIn n 0 (h .ends) (h .nbr) (h .kind))) 4 (starsIn n 0 (h .ends) (h .nbr) (h .kind)) → r ≡ test6 (jobOf h)
+-- the stars held, as the job that they are
+pub job-stars : (h : Stars) (n : ℕ) → n ≡ h .count → jobIn n (h .ends) (h .nbr) (h .kind) ≡ jobOf h
 unfolding jobOf
-test6-held h r n e q = (rw e at q) ∙ sym (test6-stars (jobOf h))
+job-stars h n e = rw e
+
+pub test6-held : (ends nbr kind : List ℕ) (n : ℕ) (r : Bool) → r ≡ allFrom (starAnswers (jobIn n ends nbr kind)) 4 (jobIn n ends nbr kind)
+    → r ≡ test6 (jobIn n ends nbr kind)
+test6-held ends nbr kind n r q = q ∙ sym (test6-stars (jobIn n ends nbr kind))
+
+-- the count asked with another number that is the same
+pub test6-counted : (ends nbr kind : List ℕ) (n m : ℕ) (r : Bool) → r ≡ test6 (jobIn n ends nbr kind) → n ≡ m → r ≡ test6 (jobIn m ends nbr kind)
+test6-counted ends nbr kind n m r q e = rw (← e) q

@@ -42,9 +42,13 @@ unfoldable pub starsIn : ℕ → ℕ → List ℕ → List ℕ → List ℕ → 
 starsIn zero i ends nbr kind = []
 starsIn (suc m) i ends nbr kind = heldStar ends nbr kind i ∷ starsIn m (suc i) ends nbr kind
 
--- THE JOB THAT STARS HOLD, whatever stands in them
+-- THE JOB OF SO MANY STARS that lie one behind the other, whatever stands there
+abbrev pub jobIn : ℕ → List ℕ → List ℕ → List ℕ → Job
+jobIn count ends nbr kind = starsIn count 0 ends nbr kind
+
+-- THE JOB THAT STARS HOLD
 unfoldable pub jobOf : Stars → Job
-jobOf h = starsIn (h .count) 0 (h .ends) (h .nbr) (h .kind)
+jobOf h = jobIn (h .count) (h .ends) (h .nbr) (h .kind)
 
 -- the first of m places, from place k on, whose entry names v; the place behind them where none does
 unfoldable pub placeIn : ℕ → ℕ → List ℕ → ℕ → ℕ

@@ -5,7 +5,7 @@ ghost use Prim.Native.Nat.{_+_, _-_, _≤_, _<_};
 ghost use lib.Dec.{eqb};
 ghost use lib.ListN.{length, getD};
 ghost use Rattle.floor.specs.Jobs.{starOf, names, lists, test6};
-ghost use Rattle.stars.specs.Held.{toAt, entryAt, cells, endOf, startOf, heldStar, starsIn, jobOf, noStars, placeIn, answers, starAnswers};
+ghost use Rattle.stars.specs.Held.{toAt, entryAt, cells, endOf, startOf, heldStar, jobIn, noStars, placeIn, answers, starAnswers};
 use crate::Stars;
 
 // No stars.
@@ -100,7 +100,7 @@ pub fn star_names<'a>(
     v: usize,
     u: usize,
 ) -> bool
-    ensures { λ r. ⌜ r ≡ names (starOf (starsIn count 0 (now (ends .entry)) (now (nbr .entry)) (now (kind .entry))) v) u ⌝ }
+    ensures { λ r. ⌜ r ≡ names (starOf (jobIn count (now (ends .entry)) (now (nbr .entry)) (now (kind .entry))) v) u ⌝ }
 {
     if v < 4 {
         return false;
@@ -147,7 +147,7 @@ fn star_lists<'a>(
     u: usize,
     want: u8,
 ) -> bool
-    ensures { λ r. ⌜ r ≡ lists (starOf (starsIn count 0 (now (ends .entry)) (now (nbr .entry)) (now (kind .entry))) v) u want ⌝ }
+    ensures { λ r. ⌜ r ≡ lists (starOf (jobIn count (now (ends .entry)) (now (nbr .entry)) (now (kind .entry))) v) u want ⌝ }
 {
     if v < 4 {
         return false;
@@ -169,7 +169,7 @@ fn entry_answered<'a>(
     u: usize,
     k: usize,
 ) -> bool
-    ensures { λ r. ⌜ r ≡ answers (starsIn count 0 (now (ends .entry)) (now (nbr .entry)) (now (kind .entry))) u
+    ensures { λ r. ⌜ r ≡ answers (jobIn count (now (ends .entry)) (now (nbr .entry)) (now (kind .entry))) u
         (entryAt (now (nbr .entry)) (now (kind .entry)) k) ⌝ }
 {
     let v = to_at(nbr, k);
@@ -190,7 +190,7 @@ fn part_answered<'a>(
     from: usize,
     end: usize,
 ) -> bool
-    ensures { λ r. ⌜ r ≡ starAnswers (starsIn count 0 (now (ends .entry)) (now (nbr .entry)) (now (kind .entry))) u
+    ensures { λ r. ⌜ r ≡ starAnswers (jobIn count (now (ends .entry)) (now (nbr .entry)) (now (kind .entry))) u
         (cells (end - from) from (now (nbr .entry)) (now (kind .entry))) ⌝ }
 {
     let mut k = from;
@@ -211,8 +211,8 @@ fn star_answered<'a>(
     count: usize,
     i: usize,
 ) -> bool
-    requires { ⌜ i < 256 ⌝ }
-    ensures { λ r. ⌜ r ≡ starAnswers (starsIn count 0 (now (ends .entry)) (now (nbr .entry)) (now (kind .entry))) (4 + i)
+    requires { ⌜ i < 65536 ⌝ }
+    ensures { λ r. ⌜ r ≡ starAnswers (jobIn count (now (ends .entry)) (now (nbr .entry)) (now (kind .entry))) (4 + i)
         (heldStar (now (ends .entry)) (now (nbr .entry)) (now (kind .entry)) i) ⌝ }
 {
     let from = start_of(ends, nbr.len(), i);
@@ -220,17 +220,24 @@ fn star_answered<'a>(
     part_answered(ends, nbr, kind, count, 4 + i, from, end)
 }
 
-// Test 6: where a room lists another, that one lists it with the opposite kind.
-pub fn answered(stars: Stars) -> bool
-    ensures { λ r. ⌜ r ≡ test6 (jobOf stars) ⌝ }
+// Whether every entry of each of so many stars is answered.
+fn all_answered<'a>(ends: &'a [u16], nbr: &'a [u16], kind: &'a [u8], count: usize) -> bool
+    requires { ⌜ count < 65536 ⌝ }
+    ensures { λ r. ⌜ r ≡ test6 (jobIn count (now (ends .entry)) (now (nbr .entry)) (now (kind .entry))) ⌝ }
 {
-    let count = fields::wide(stars.count);
     let mut i: usize = 0;
     while i < count {
-        if !star_answered(&stars.ends, &stars.nbr, &stars.kind, count, i) {
+        if !star_answered(ends, nbr, kind, count, i) {
             return false;
         }
         i += 1;
     }
     true
+}
+
+// Test 6: where a room lists another, that one lists it with the opposite kind.
+pub fn answered<'a>(ends: &'a [u16], nbr: &'a [u16], kind: &'a [u8], count: u16) -> bool
+    ensures { λ r. ⌜ r ≡ test6 (jobIn count (now (ends .entry)) (now (nbr .entry)) (now (kind .entry))) ⌝ }
+{
+    all_answered(ends, nbr, kind, fields::number(count))
 }

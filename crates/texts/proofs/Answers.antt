@@ -1,5 +1,5 @@
 -- Whole answers as text, as the code comes by them. Assumes nothing.
-use Prim.Native.Nat.{ℕ, _≤_, _<_}
+use Prim.Native.Nat.{ℕ, _+_, _≤_, _<_}
 use mathlib.Core.Path.{_≡_, sym, ap, _∙_}
 use mathlib.Core.Bool.{true, false}
 use mathlib.Core.List.{List, [], _∷_, _++_}
@@ -14,8 +14,10 @@ use Rattle.floor.specs.Quoted.{plain}
 use Rattle.floor.specs.Texts.{line, refusedWord, tooLong, planText, answerText, listing}
 use Rattle.stars.specs.Held.{jobOf}
 use Rattle.drawing.specs.declared.Answer.the-variants.{Drawn, Refused}
-use Rattle.drawing.specs.Rects.{planIn}
+use Rattle.drawing.specs.declared.Plan.{Plan as HeldPlan}
+use Rattle.drawing.specs.Rects.{planFrom, planIn}
 use Rattle.drawing.specs.Drawn.{said}
+use Rattle.drawing.proofs.Corollaries.{plan-held}
 use Rattle.board.specs.declared.Planned.{Planned}
 use Rattle.board.specs.Boards.{Plans}
 use Rattle.letters.specs.Puts.{Puts}
@@ -44,11 +46,15 @@ module _ (bs : List ℕ) where
     unfolding listing
     short-text = let z : leb (length bs) 8192 ≡ true = le-leb (length bs) 8192 l in rw z
 
-    pub plan-text : q .answer ≡ Drawn → listing bs ≡ planText (planIn (q .board .plan))
+    -- the held plan, by its numbers
+    abbrev plan : HeldPlan
+    plan = q .board .plan
+
+    pub plan-text : q .answer ≡ Drawn → listing bs ≡ planText (planFrom (plan .width) (plan .height) (plan .rooms + 4) (plan .rects))
     unfolding said answerText
     plan-text d =
-        let h : load bs ≡ held (jobOf (q .board .stars)) (planIn (q .board .plan)) = sym (rw d at (p .says)) in
-        short-text ∙ ap answerText h
+        let h : load bs ≡ held (jobOf (q .board .stars)) (planIn plan) = sym (rw d at (p .says)) in
+        short-text ∙ ap answerText h ∙ ap planText (sym (plan-held plan))
 
     pub refusal-text : (o x : List ℕ) (k r : ℕ)
         → (r ≡ length (answerText (refused k))) × (x ≡ sets o 0 (answerText (refused k))) × (r ≤ 8192)

@@ -1,12 +1,11 @@
 // What is printed of an answer, as text in a lent buffer.
 ghost use mathlib.Core.Path.{_≡_};
-ghost use Prim.Native.Nat.{_≤_};
+ghost use Prim.Native.Nat.{_+_, _≤_};
 ghost use lib.ListN.{length};
 ghost use lib.Seq.{sets};
 ghost use Rattle.floor.specs.Plans.{refused};
 ghost use Rattle.floor.specs.Texts.{tooLong, planText, answerText, listing};
-ghost use Rattle.drawing.specs.Rects.{planIn};
-use drawing::Plan;
+ghost use Rattle.drawing.specs.Rects.{planFrom};
 
 mod line; // line.rt: numbers on one line
 mod plan; // plan.rt: a line for each rectangle
@@ -26,17 +25,13 @@ pub fn list_too_long(out: &mut [u8; 8192]) -> usize
 }
 
 // A plan, as text at the front; how many bytes that takes is handed back.
-pub fn list_plan(plan: Plan, out: &mut [u8; 8192]) -> usize
-    ensures { λ r. ⌜ (r ≡ length (planText (planIn plan))) × (now (out .exit) ≡ sets (now (out .entry)) 0 (planText (planIn plan))) × (r ≤ 8192) ⌝ }
+pub fn list_plan(rects: &[u16], rooms: u8, width: u16, height: u16, out: &mut [u8; 8192]) -> usize
+    ensures { λ r. ⌜ (r ≡ length (planText (planFrom width height (rooms + 4) (now (rects .entry)))))
+        × (now (out .exit) ≡ sets (now (out .entry)) 0 (planText (planFrom width height (rooms + 4) (now (rects .entry))))) × (r ≤ 8192) ⌝ }
 {
     let sheet = line::put_sheet(out, 0);
-    let first = line::put_two(
-        out,
-        sheet,
-        fields::number(plan.width),
-        fields::number(plan.height),
-    );
-    plan::put_rects(plan, out, first)
+    let first = line::put_two(out, sheet, fields::number(width), fields::number(height));
+    plan::put_rects(rects, rooms, out, first)
 }
 
 // What the listing program prints for some input, at the front; how many bytes that takes is handed back.
@@ -49,9 +44,12 @@ pub fn list(input: &[u8], out: &mut [u8; 8192]) -> usize
     }
     let planned = board::plan_job(input);
     let board = planned.board;
+    let plan = board.plan;
     let answer = planned.answer;
     match answer {
-        drawing::Answer::Drawn => list_plan(board.plan, out),
+        drawing::Answer::Drawn => {
+            list_plan(&plan.rects, plan.rooms, plan.width, plan.height, out)
+        }
         drawing::Answer::Refused(k) => list_refusal(k, out),
     }
 }

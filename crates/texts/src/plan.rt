@@ -1,20 +1,19 @@
 // The rectangles of a plan, a line each, put at a place of a lent buffer, as far as it reaches.
-ghost use Prim.Native.Nat.{_≤_, _<_};
-ghost use lib.ListN.{length};
-ghost use Rattle.floor.specs.Plans.{rectOf, rectBytes};
+ghost use Prim.Native.Nat.{_+_, _≤_, _<_};
+ghost use lib.ListN.{length, getD};
+ghost use Rattle.floor.specs.Plans.{nowhere, rectBytes};
 ghost use Rattle.floor.specs.Texts.{line, rectLines};
-ghost use Rattle.drawing.specs.Rects.{planIn};
+ghost use Rattle.drawing.specs.Rects.{rectsIn};
 ghost use Rattle.letters.specs.Puts.{Puts};
 use crate::line;
-use drawing::Plan;
 
 // The line of one rectangle.
-fn put_rect(plan: Plan, v: usize, out: &mut [u8], at: usize) -> usize
+fn put_rect(rects: &[u16], rooms: u8, v: usize, out: &mut [u8], at: usize) -> usize
     requires { ⌜ v < 100000 ⌝ }
-    ensures { λ r. ⌜ Puts (now (out .entry)) at (line (rectBytes (rectOf (planIn plan) v))) (now (out .exit)) r
-        × (length (line (rectBytes (rectOf (planIn plan) v))) ≤ 30) ⌝ }
+    ensures { λ r. ⌜ Puts (now (out .entry)) at (line (rectBytes (getD (rectsIn (rooms + 4) 0 (now (rects .entry))) v nowhere))) (now (out .exit)) r
+        × (length (line (rectBytes (getD (rectsIn (rooms + 4) 0 (now (rects .entry))) v nowhere))) ≤ 30) ⌝ }
 {
-    let r = drawing::rectangle(plan, v);
+    let r = drawing::rectangle(rects, rooms, v);
     let x1 = fields::number(r.x1);
     let y1 = fields::number(r.y1);
     let x2 = fields::number(r.x2);
@@ -23,15 +22,15 @@ fn put_rect(plan: Plan, v: usize, out: &mut [u8], at: usize) -> usize
 }
 
 // The lines of all rectangles, of which there are at most 259.
-pub fn put_rects(plan: Plan, out: &mut [u8], at: usize) -> usize
-    ensures { λ r. ⌜ Puts (now (out .entry)) at (rectLines (planIn plan .rects)) (now (out .exit)) r
-        × (length (rectLines (planIn plan .rects)) ≤ 7770) ⌝ }
+pub fn put_rects(rects: &[u16], rooms: u8, out: &mut [u8], at: usize) -> usize
+    ensures { λ r. ⌜ Puts (now (out .entry)) at (rectLines (rectsIn (rooms + 4) 0 (now (rects .entry)))) (now (out .exit)) r
+        × (length (rectLines (rectsIn (rooms + 4) 0 (now (rects .entry)))) ≤ 7770) ⌝ }
 {
-    let many = fields::wide(plan.rooms) + 4;
+    let many = fields::wide(rooms) + 4;
     let mut next = at;
     let mut v: usize = 0;
     while v < many {
-        next = put_rect(plan, v, out, next);
+        next = put_rect(rects, rooms, v, out, next);
         v += 1;
     }
     next

@@ -4,12 +4,14 @@ use mathlib.Core.Path.{_≡_, refl, sym, ap, _∙_}
 use mathlib.Core.List.{List}
 use native.Mathlib.Omega.{arith}
 use lib.ListN.{length}
-use Rattle.floor.specs.Calls.{Board, empty, Call, loads, turns, shares, writesJob, writesPlan, Reply, refusal, done, spans, says, wrote, Step, lent, refuse, step}
-use Rattle.floor.specs.Tracker.{behind, then, planOfJob, turnedOfJob, shareOfJob, code}
+use Rattle.floor.specs.Calls.{Board, Call, Reply, refusal, done, spans, says, wrote, Step, lent, refuse, step}
+use Rattle.floor.specs.Tracker.{behind, then, code}
 use Rattle.board.specs.declared.Board.{Board as HeldBoard}
 use Rattle.board.specs.declared.Step.{Step as Handed}
-use Rattle.board.specs.Boards.{noBoard, boardOf, replyOf, Tells}
-use Rattle.board.proofs.Corollaries.{at-first, tells-holds}
+use Rattle.board.specs.Boards.{boardOf, replyOf, outcome, Tells}
+use Rattle.board.specs.Reach.{Reached, called}
+use Rattle.board.proofs.AnyCalls.{AsRules, reached-step}
+use Rattle.tirunoiwa.specs.Left.{Left}
 use Rattle.tirunoiwa.proofs.Numbers.{Numbered, step-numbered, step-most}
 
 -- ---- behind a call
@@ -50,111 +52,33 @@ then-any s c P f h = behind-any c P f (s .reply) (s .board) h
 pub then-numbered : (s : Step) (c : Call) → Numbered (s .reply) → Numbered (then s c .reply)
 then-numbered s c n = then-any s c Numbered (λ b. step-numbered b c) (λ k e. rw e at n)
 
--- the answer as one number, and a board that holds what is left
-abbrev Left : HeldBoard → ℕ → Step → Type 0
-Left b a s = (a ≡ code (s .reply)) × (boardOf b ≡ s .board)
+-- behind an answer below 256 none is made
+pub then-refused : (s : Step) (c : Call) {a : ℕ} → a ≡ code (s .reply) → a < 256 → (a ≡ code (then s c .reply)) × (lent c ≡ then s c .buffer)
+unfolding then
+then-refused s c e h = let (x, y) = behind-refused (s .reply) (s .board) c (rw e at h) in (e ∙ x, y)
 
-module _ (s : Step) (c : Call) (a : ℕ) (e : a ≡ code (s .reply)) where
-  then-refused : a < 256 → (a ≡ code (then s c .reply)) × (lent c ≡ then s c .buffer)
-  unfolding then
-  then-refused h = let (x, y) = behind-refused (s .reply) (s .board) c (rw e at h) in (e ∙ x, y)
+-- ---- a call on a reached board
 
-  then-goes : Numbered (s .reply) → 256 ≤ a → then s c ≡ step (s .board) c
-  unfolding then
-  then-goes n h = behind-goes (s .reply) (s .board) c n (rw e at h)
+module _ {b : HeldBoard} (h : Reached b) (c : Call) {r : Handed} {x : List ℕ} (t : Tells r x (outcome b c)) where
+  told : AsRules b c r x
+  told = reached-step b h c r x t
 
--- a call of the board behind what is left
-module _ (b : HeldBoard) (a : ℕ) (s : Step) (l : Left b a s) (n : Numbered (s .reply)) (h : 256 ≤ a) (c : Call) where
-  then-is : step (boardOf b) c ≡ then s c
-  then-is = ap (λ (d : Board). step d c) (l .1) ∙ sym (then-goes s c a (l .0) n h)
+  -- its answer fits: a buffer takes less than half of all addresses
+  pub fits : length (lent c) * 1 < 2 ^ 63 → code (replyOf (r .reply)) < 2 ^ 64
+  fits m = let k : code (replyOf (r .reply)) ≤ 257 + length (lent c) = rw (told .reply) (step-most (boardOf b) c) in omega arith
 
-  then-told : (r : Handed) (x : List ℕ) (d : ℕ) → Tells b r x (step (boardOf b) c) → d ≡ code (replyOf (r .reply))
-      → Left (r .board) d (then s c) × (x ≡ then s c .buffer)
-  then-told r x d t e = (
-    (e ∙ ap code (t .reply ∙ ap (λ (q : Step). q .reply) then-is), tells-holds b c r x t ∙ ap (λ (q : Step). q .board) then-is),
-    t .buffer ∙ ap (λ (q : Step). q .buffer) then-is,
-  )
+  -- it leaves what the rules say of what the board holds
+  pub left : {d : ℕ} → d ≡ code (replyOf (r .reply)) → (o : Board) → boardOf b ≡ o → Left (r .board) d (step o c)
+  left e o f = record {
+    reached = called c r x h t;
+    holds = told .holds ∙ ap (λ (q : Board). step q c .board) f;
+    answer = e ∙ ap code (told .reply ∙ ap (λ (q : Board). step q c .reply) f);
+  }
 
--- ---- the answer of a call fits
-
-module _ (b : HeldBoard) (r : Handed) (x : List ℕ) where
-  tells-most : (c : Call) → Tells b r x (step (boardOf b) c) → code (replyOf (r .reply)) ≤ 257 + length (lent c)
-  tells-most c t = rw (t .reply) (step-most (boardOf b) c)
-
-  pub load-fits : (bs : List ℕ) → Tells b r x (step (boardOf b) (loads bs)) → code (replyOf (r .reply)) < 2 ^ 64
-  unfolding lent
-  load-fits bs t = omega (arith, tells-most (loads bs) t)
-
-  pub turn-fits : (u v : ℕ) → Tells b r x (step (boardOf b) (turns u v)) → code (replyOf (r .reply)) < 2 ^ 64
-  unfolding lent
-  turn-fits u v t = omega (arith, tells-most (turns u v) t)
-
-  pub share-fits : (u v : ℕ) → Tells b r x (step (boardOf b) (shares u v)) → code (replyOf (r .reply)) < 2 ^ 64
-  unfolding lent
-  share-fits u v t = omega (arith, tells-most (shares u v) t)
-
-  -- a buffer takes less than half of all addresses
-  pub job-fits : (buf : List ℕ) → Tells b r x (step (boardOf b) (writesJob buf)) → length buf * 1 < 2 ^ 63 → code (replyOf (r .reply)) < 2 ^ 64
-  unfolding lent
-  job-fits buf t h = omega (arith, tells-most (writesJob buf) t)
-
-  pub plan-fits : (buf : List ℕ) → Tells b r x (step (boardOf b) (writesPlan buf)) → length buf * 1 < 2 ^ 63 → code (replyOf (r .reply)) < 2 ^ 64
-  unfolding lent
-  plan-fits buf t h = omega (arith, tells-most (writesPlan buf) t)
-
--- ---- the functions of the library
-
--- a job's bytes loaded onto an empty board
-pub load-left : (n : HeldBoard) (bs x : List ℕ) (r : Handed) (a : ℕ) → n ≡ noBoard → Tells n r x (step (boardOf n) (loads bs)) → a ≡ code (replyOf (r .reply))
-    → (a ≡ code (step empty (loads bs) .reply)) × (boardOf (r .board) ≡ step empty (loads bs) .board)
-load-left n bs x r a en t e =
-    let f : boardOf n ≡ empty = ap boardOf en ∙ at-first in
-    (e ∙ ap code (t .reply) ∙ rw f, tells-holds n (loads bs) r x t ∙ rw f)
-
-module _ (bs : List ℕ) (b : HeldBoard) (a : ℕ) (l : (a ≡ code (step empty (loads bs) .reply)) × (boardOf b ≡ step empty (loads bs) .board)) where
-  loaded : Numbered (step empty (loads bs) .reply)
-  loaded = step-numbered empty (loads bs)
-
-  -- the plan
-  pub plan-refused : (buf : List ℕ) → a < 256 → (a ≡ code (planOfJob bs buf .reply)) × (buf ≡ planOfJob bs buf .buffer)
-  unfolding planOfJob lent
-  plan-refused buf h = then-refused (step empty (loads bs)) (writesPlan buf) a (l .0) h
-
-  pub plan-told : (buf x : List ℕ) (r : Handed) (d : ℕ) → 256 ≤ a → Tells b r x (step (boardOf b) (writesPlan buf)) → d ≡ code (replyOf (r .reply))
-      → (d ≡ code (planOfJob bs buf .reply)) × (x ≡ planOfJob bs buf .buffer)
-  unfolding planOfJob
-  plan-told buf x r d h t e = let (m, y) = then-told b a (step empty (loads bs)) l loaded h (writesPlan buf) r x d t e in (m .0, y)
-
-  -- whether two vertices share
-  pub share-refused : (u v : ℕ) → a < 256 → a ≡ code (shareOfJob bs u v .reply)
-  unfolding shareOfJob
-  share-refused u v h = then-refused (step empty (loads bs)) (shares u v) a (l .0) h .0
-
-  pub share-told : (u v : ℕ) (x : List ℕ) (r : Handed) (d : ℕ) → 256 ≤ a → Tells b r x (step (boardOf b) (shares u v)) → d ≡ code (replyOf (r .reply))
-      → d ≡ code (shareOfJob bs u v .reply)
-  unfolding shareOfJob
-  share-told u v x r d h t e = then-told b a (step empty (loads bs)) l loaded h (shares u v) r x d t e .0 .0
-
-  -- the turned job
-  module _ (u v : ℕ) (buf : List ℕ) where
-    pub turned-unloaded : a < 256 → (a ≡ code (turnedOfJob bs u v buf .reply)) × (buf ≡ turnedOfJob bs u v buf .buffer)
-    unfolding turnedOfJob lent
-    turned-unloaded h =
-        let (x, y) = then-refused (step empty (loads bs)) (turns u v) a (l .0) h in
-        then-refused (then (step empty (loads bs)) (turns u v)) (writesJob buf) a x h
-
-    module _ (h : 256 ≤ a) (x : List ℕ) (r : Handed) (t : Tells b r x (step (boardOf b) (turns u v))) (d : ℕ) (e : d ≡ code (replyOf (r .reply))) where
-      turn-left : Left (r .board) d (then (step empty (loads bs)) (turns u v))
-      turn-left = then-told b a (step empty (loads bs)) l loaded h (turns u v) r x d t e .0
-
-      pub turned-refused : d < 256 → (d ≡ code (turnedOfJob bs u v buf .reply)) × (buf ≡ turnedOfJob bs u v buf .buffer)
-      unfolding turnedOfJob lent
-      turned-refused i = then-refused (then (step empty (loads bs)) (turns u v)) (writesJob buf) d (turn-left .0) i
-
-      pub turned-told : 256 ≤ d → (y : List ℕ) (q : Handed) (w : ℕ) → Tells (r .board) q y (step (boardOf (r .board)) (writesJob buf))
-          → w ≡ code (replyOf (q .reply)) → (w ≡ code (turnedOfJob bs u v buf .reply)) × (y ≡ turnedOfJob bs u v buf .buffer)
-      unfolding turnedOfJob
-      turned-told i y q w k f =
-          let (m, z) = then-told (r .board) d (then (step empty (loads bs)) (turns u v)) turn-left
-          (then-numbered (step empty (loads bs)) (turns u v) loaded) i (writesJob buf) q y w k f in
-          (m .0, z)
+-- and behind an answer from 256 on what they say of the two calls
+pub then-told : {b : HeldBoard} {a : ℕ} {s : Step} → Left b a s → Numbered (s .reply) → 256 ≤ a → (c : Call) {r : Handed} {x : List ℕ} → Tells r x (outcome b c)
+    → {d : ℕ} → d ≡ code (replyOf (r .reply)) → Left (r .board) d (then s c) × (x ≡ then s c .buffer)
+unfolding then
+then-told {s = s} l n i c t e =
+    let f : step (s .board) c ≡ then s c = sym (behind-goes (s .reply) (s .board) c n (rw (l .answer) at i)) in
+    rw (← f) (left (l .reached) c t e (s .board) (l .holds), told (l .reached) c t .buffer ∙ ap (λ (o : Board). step o c .buffer) (l .holds))

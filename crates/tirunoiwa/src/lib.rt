@@ -2,7 +2,7 @@
 ghost use mathlib.Core.Path.{_≡_};
 ghost use Rattle.floor.specs.Calls.{empty, loads, step};
 ghost use Rattle.floor.specs.Tracker.{planOfJob, turnedOfJob, shareOfJob, starOfJob, code};
-ghost use Rattle.board.specs.Boards.{boardOf};
+ghost use Rattle.tirunoiwa.specs.Left.{Left};
 use board::Board;
 
 mod answer; // answer.rt: an answer as one number
@@ -21,8 +21,7 @@ struct Loaded {
 
 // A job's bytes loaded onto an empty board.
 fn load(job: &[u8]) -> Loaded
-    ensures { λ r. ⌜ (r .answer ≡ code (step empty (loads (now (job .entry))) .reply))
-        × (boardOf (r .board) ≡ step empty (loads (now (job .entry))) .board) ⌝ }
+    ensures { λ r. ⌜ Left (r .board) (r .answer) (step empty (loads (now (job .entry)))) ⌝ }
 {
     let none = board::empty();
     let loaded = none.load(job);

@@ -1,25 +1,16 @@
 // Reads two rooms, two bytes each with the high byte first, and a job from standard input, and writes the job with their contact turned;
 // or the number of the refusal, or that the input is too long.
-ghost use mathlib.Core.Path.{_≡_};
-ghost use lib.ListN.{length};
-
-// A buffer for what is printed.
-fn page() -> [u8; 8192]
-    ensures { λ r. ⌜ length r ≡ 8192 ⌝ }
-{
-    [0; 8192]
-}
 
 // The number of a refusal.
 fn refuse(k: u8) {
-    let mut out = page();
+    let mut out = letters::page();
     let length = texts::list_refusal(k, &mut out);
     io::write_all(1, &out[..length]);
 }
 
 // That the input is too long.
 fn too_long() {
-    let mut out = page();
+    let mut out = letters::page();
     let length = texts::list_too_long(&mut out);
     io::write_all(1, &out[..length]);
 }
@@ -48,7 +39,7 @@ fn main() {
     }
     let u = 256 * fields::wide(input[0]) + fields::wide(input[1]);
     let v = 256 * fields::wide(input[2]) + fields::wide(input[3]);
-    let mut out = page();
+    let mut out = letters::page();
     let answer = tirunoiwa::tirunoiwa_turned(&input[4..n], u, v, &mut out);
     show(answer, &out);
 }

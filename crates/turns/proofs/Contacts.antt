@@ -1,5 +1,5 @@
 -- Contacts and their lists in the held stars, as the code comes by them. Assumes nothing.
-use Prim.Native.Nat.{ℕ, zero, suc, _+_, _-_, _<_, _≤_}
+use Prim.Native.Nat.{ℕ, zero, suc, _+_, _-_, _%_, _<_, _≤_}
 use mathlib.Core.Path.{_≡_, refl, sym, _∙_}
 use mathlib.Core.Bool.{Bool, true, false, cond, not, _&&_, _||_}
 use mathlib.Core.List.{List, [], _∷_, map}
@@ -9,70 +9,73 @@ use lib.Dec.{leb, ltb, eqb}
 use lib.ListN.{length, getD}
 use Rattle.floor.specs.Lists.{keep, isLast}
 use Rattle.floor.specs.Lists.Laws.{bit, and-parts}
-use Rattle.floor.specs.Jobs.{Entry, Star, isVertex, isRoom, starOf, names, kindOf, listOf}
-use Rattle.floor.specs.Turns.{inContact}
-use Rattle.stars.specs.declared.Stars.{Stars}
-use Rattle.stars.specs.Held.{toAt, entryAt, cells, startOf, endOf, heldStar, starsIn, jobOf, placeIn}
+use Rattle.floor.specs.Jobs.{Entry, Star, Job, isVertex, isRoom, starOf, names, kindOf, listOf}
+use Rattle.floor.specs.Turns.{turnedKind, inContact}
+use Rattle.stars.specs.Held.{toAt, entryAt, cells, startOf, endOf, heldStar, jobIn, placeIn}
 use Rattle.stars.proofs.Holding.{length-stars, star-in, cells-more, cells-done}
-use Rattle.jobs.proofs.Writing.{job-stars}
 use Rattle.turns.specs.Rewrites.{lastAfter}
 
 -- a number that is a room's
 pub low-room : (n v : ℕ) → v < 4 → false ≡ (leb 4 v && leb v (n + 3))
 low-room n v h = rw (lt-leb 4 v h)
 
-pub high-room : (n v m : ℕ) → 4 ≤ v → m ≡ n → leb v (m + 3) ≡ (leb 4 v && leb v (n + 3))
-high-room n v m h e = rw (le-leb 4 v h, e)
+pub high-room : (n v : ℕ) → 4 ≤ v → ltb (v - 4) n ≡ (leb 4 v && leb v (n + 3))
+high-room n v h = rw (le-leb 4 v h) (go (leb v (n + 3)) refl)
+  where
+    go : (b : Bool) → leb v (n + 3) ≡ b → ltb (v - 4) n ≡ b
+    go true t = let l : v ≤ n + 3 = leb-true v (n + 3) t in lt-ltb (v - 4) n (omega arith)
+    go false t = let l : n + 3 < v = leb-false v (n + 3) t in le-ltb (v - 4) n (omega arith)
 
-pub held-count : (h : Stars) → length (jobOf h) ≡ h .count
-unfolding jobOf
-held-count h = length-stars (h .count) 0 (h .ends) (h .nbr) (h .kind)
+-- both are rooms, of so many
+abbrev pub Rooms : ℕ → ℕ → ℕ → Type 0
+Rooms n u v = (4 ≤ u) × (u < 4 + n) × (4 ≤ v) × (v < 4 + n)
 
-room-test : (h : Stars) (v : ℕ) → isRoom (jobOf h) v ≡ (leb 4 v && leb v (h .count + 3))
-unfolding isRoom isVertex
-room-test h v = rw (held-count h)
-
--- two rooms in contact
-module _ (h : Stars) (u v : ℕ) (a : Bool) (ea : a ≡ (leb 4 u && leb u (h .count + 3))) where
-  pub no-first : not a ≡ true → false ≡ inContact (jobOf h) u v
-  unfolding inContact
-  no-first t = rw (room-test h u, ← ea, not-true a t)
-
-  module _ (f : not a ≡ false) (b : Bool) (eb : b ≡ (leb 4 v && leb v (h .count + 3))) where
-    pub no-second : not b ≡ true → false ≡ inContact (jobOf h) u v
-    unfolding inContact
-    no-second t = rw (room-test h u, ← ea, not-false a f, room-test h v, ← eb, not-true b t)
-
-    pub two-rooms : not b ≡ false → (n : ℕ) (r : Bool) → n ≡ h .count → r ≡ names (starOf (starsIn n 0 (h .ends) (h .nbr) (h .kind)) u) v
-        → r ≡ inContact (jobOf h) u v
-    unfolding inContact
-    two-rooms t n r en er = rw (room-test h u, ← ea, not-false a f, room-test h v, ← eb, not-false b t) (er ∙ rw (job-stars h n en))
-
--- both are rooms
-abbrev pub Rooms : Stars → ℕ → ℕ → Type 0
-Rooms h u v = (4 ≤ u) × (u < 4 + h .count) × (4 ≤ v) × (v < 4 + h .count)
-
-pub contact-rooms : (h : Stars) (u v : ℕ) (b : Bool) → b ≡ inContact (jobOf h) u v → not b ≡ false → Rooms h u v
+-- two that are in contact are rooms
+pub contact-rooms : (j : Job) (u v : ℕ) → inContact j u v ≡ true → Rooms (length j) u v
 unfolding inContact isRoom isVertex
-contact-rooms h u v b e f =
-    let t : inContact (jobOf h) u v ≡ true = sym e ∙ not-false b f in
-    let (p, _) = and-parts (isRoom (jobOf h) u && isRoom (jobOf h) v) (names (starOf (jobOf h) u) v) t in
-    let (q, r) = and-parts (isRoom (jobOf h) u) (isRoom (jobOf h) v) p in
-    let (a, b) = and-parts (leb 4 u) (leb u (length (jobOf h) + 3)) q in
-    let (c, d) = and-parts (leb 4 v) (leb v (length (jobOf h) + 3)) r in
-    let n : length (jobOf h) ≡ h .count = held-count h in
+contact-rooms j u v t =
+    let (p, _) = and-parts (isRoom j u && isRoom j v) (names (starOf j u) v) t in
+    let (q, r) = and-parts (isRoom j u) (isRoom j v) p in
+    let (a, b) = and-parts (leb 4 u) (leb u (length j + 3)) q in
+    let (c, d) = and-parts (leb 4 v) (leb v (length j + 3)) r in
     let ua : 4 ≤ u = leb-true 4 u a in
-    let ub : u ≤ length (jobOf h) + 3 = leb-true u _ b in
+    let ub : u ≤ length j + 3 = leb-true u _ b in
     let va : 4 ≤ v = leb-true 4 v c in
-    let vb : v ≤ length (jobOf h) + 3 = leb-true v _ d in
+    let vb : v ≤ length j + 3 = leb-true v _ d in
     (ua, omega arith, va, omega arith)
 
--- the star of a room is one of the held
-pub room-held : (h : Stars) (u : ℕ) → 4 ≤ u → u < 4 + h .count → starOf (jobOf h) u ≡ heldStar (h .ends) (h .nbr) (h .kind) (u - 4)
-unfolding starOf jobOf
-room-held h u l k =
-    let z : 0 + (u - 4) ≡ u - 4 = omega arith in
-    rw (le-leb 4 u l) (star-in (h .count) 0 (u - 4) (h .ends) (h .nbr) (h .kind) (omega arith) ∙ rw z)
+-- so many stars that lie one behind the other
+module _ (n : ℕ) (ends nbr kind : List ℕ) where
+  -- which numbers are rooms
+  room-test : (v : ℕ) → isRoom (jobIn n ends nbr kind) v ≡ (leb 4 v && leb v (n + 3))
+  unfolding isRoom isVertex
+  room-test v = rw (length-stars n 0 ends nbr kind)
+
+  -- the star of a room is one of the held
+  pub room-held : (u : ℕ) → 4 ≤ u → u < 4 + n → starOf (jobIn n ends nbr kind) u ≡ heldStar ends nbr kind (u - 4)
+  unfolding starOf
+  room-held u l k =
+      let z : 0 + (u - 4) ≡ u - 4 = omega arith in
+      rw (le-leb 4 u l) (star-in n 0 (u - 4) ends nbr kind (omega arith) ∙ rw z)
+
+  -- two of them that are in contact are rooms
+  pub met-rooms : (u v : ℕ) (b : Bool) → b ≡ inContact (jobIn n ends nbr kind) u v → not b ≡ false → Rooms n u v
+  met-rooms u v b e f = rw (length-stars n 0 ends nbr kind) at (contact-rooms (jobIn n ends nbr kind) u v (sym e ∙ not-false b f))
+
+  -- two rooms in contact
+  module _ (u v : ℕ) (a : Bool) (ea : a ≡ (leb 4 u && leb u (n + 3))) where
+    pub no-first : not a ≡ true → false ≡ inContact (jobIn n ends nbr kind) u v
+    unfolding inContact
+    no-first t = rw (room-test u, ← ea, not-true a t)
+
+    module _ (f : not a ≡ false) (b : Bool) (eb : b ≡ (leb 4 v && leb v (n + 3))) where
+      pub no-second : not b ≡ true → false ≡ inContact (jobIn n ends nbr kind) u v
+      unfolding inContact
+      no-second t = rw (room-test u, ← ea, not-false a f, room-test v, ← eb, not-true b t)
+
+      pub two-rooms : not b ≡ false → (r : Bool) → r ≡ names (starOf (jobIn n ends nbr kind) u) v → r ≡ inContact (jobIn n ends nbr kind) u v
+      unfolding inContact
+      two-rooms t r er = rw (room-test u, ← ea, not-false a f, room-test v, ← eb, not-false b t) er
 
 -- the kind at the first place that names a vertex
 kind-place : (m k : ℕ) (nbr kind : List ℕ) (v : ℕ)
@@ -119,6 +122,16 @@ leads-up k e = rw (eq-eqb k 0 e)
 
 pub leads-right : (k : ℕ) → (k ≡ 0 → ⊥) → eqb k 3 ≡ (eqb k 0 || eqb k 3)
 leads-right k n = rw (ne-eqb k 0 n)
+
+-- the kind that a contact takes
+module _ (k n : ℕ) (last : Bool) (e : n ≡ k) where
+  pub kind-next : last ≡ true → (n + 1) % 4 ≡ turnedKind k last
+  unfolding turnedKind
+  kind-next t = rw (t, e)
+
+  pub kind-before : last ≡ false → (n + 3) % 4 ≡ turnedKind k last
+  unfolding turnedKind
+  kind-before t = rw (t, e)
 
 -- one entry of a kind, or none
 module _ (kind : List ℕ) (k x want : ℕ) (e : x ≡ getD kind k 0) where

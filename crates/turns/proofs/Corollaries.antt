@@ -1,26 +1,24 @@
--- What follows from the promise of `write_turned`. Assumes nothing.
+-- What follows from the promise of `turn_held`. Assumes nothing.
 use Prim.Native.Nat.{ℕ}
-use mathlib.Core.Path.{_≡_}
+use mathlib.Core.Path.{_≡_, sym, _∙_}
 use mathlib.Core.List.{List}
 use native.Mathlib.Omega.{arith}
-use Rattle.floor.specs.Turns.{turning}
-use Rattle.floor.specs.Calls.{Reply}
 use Rattle.fields.proofs.Corollaries.{one-answer}
-use Rattle.stars.specs.declared.Stars.{Stars}
-use Rattle.stars.specs.Held.{jobOf}
-use Rattle.turns.specs.declared.Turned.{Turned}
-use Rattle.turns.specs.declared.Turned.the-variants.{Wrote, Refused}
-use Rattle.turns.specs.Turned.{turnReply, turnWrites}
+use Rattle.turns.specs.declared.Swing.{Swing as Said}
+use Rattle.turns.specs.declared.Swing.the-variants.{Stops, Swings}
+use Rattle.turns.specs.InPlace.{swingSaid}
+use Rattle.turns.proofs.Placing.{Promised}
 
-same-reply : (a b : Turned) (r : Reply) → turnReply a ≡ r → turnReply b ≡ r → a ≡ b
-unfolding turnReply
-same-reply (Wrote n) (Wrote m) r e f = let z : n ≡ m = cc in cc
-same-reply (Wrote n) (Refused k) r e f = absurd (let z : _≡_ {A = ℕ} 0 1 = cc in omega arith)
-same-reply (Refused k) (Wrote n) r e f = absurd (let z : _≡_ {A = ℕ} 0 1 = cc in omega arith)
-same-reply (Refused k) (Refused l) r e f = let z : k ≡ l = cc in cc
+-- two answers that say the same are the same
+same-said : (a b : Said) → swingSaid a ≡ swingSaid b → a ≡ b
+unfolding swingSaid
+same-said (Stops k) (Stops l) e = let z : k ≡ l = cc in cc
+same-said (Stops k) (Swings u v t) e = absurd (let z : _≡_ {A = ℕ} 0 1 = cc in omega arith)
+same-said (Swings u v t) (Stops k) e = absurd (let z : _≡_ {A = ℕ} 0 1 = cc in omega arith)
+same-said (Swings u v t) (Swings w x s) e = let p : u ≡ w = cc in let q : v ≡ x = cc in let r : t ≡ s = cc in cc
 
--- THE PROMISE OF `write_turned` ALLOWS ONE ANSWER AND ONE BUFFER
-pub one-turning : (h : Stars) (u v : ℕ) (o : List ℕ) (a b : Turned) (x y : List ℕ)
-    → (turnReply a ≡ turnWrites (turning (jobOf h) u v) o .reply) × (x ≡ turnWrites (turning (jobOf h) u v) o .buffer)
-    → (turnReply b ≡ turnWrites (turning (jobOf h) u v) o .reply) × (y ≡ turnWrites (turning (jobOf h) u v) o .buffer) → (a ≡ b) × (x ≡ y)
-one-turning h u v o a b x y p q = (same-reply a b _ (p .0) (q .0), one-answer x y _ (p .1) (q .1))
+-- THE PROMISE OF `turn_held` ALLOWS ONE ANSWER AND ONE CONTENT OF EACH LIST
+pub one-turning : (c : ℕ) (ends nbr kind : List ℕ) (u v : ℕ) (tos kinds : List ℕ) (a b : Said) (x y p q : List ℕ)
+    → Promised c ends nbr kind u v tos kinds a x y → Promised c ends nbr kind u v tos kinds b p q → (a ≡ b) × (x ≡ p) × (y ≡ q)
+one-turning c ends nbr kind u v tos kinds a b x y p q e f =
+    (same-said a b (e .0 ∙ sym (f .0)), one-answer x p _ (e .1) (f .1), one-answer y q _ (e .2) (f .2))

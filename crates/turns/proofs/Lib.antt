@@ -1,5 +1,6 @@
 mod Contacts
 mod Shifts
 mod Rewriting
-mod Turning
 pub mod Corollaries
+pub mod Placing
+pub mod TurnedStars

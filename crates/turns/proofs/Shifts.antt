@@ -10,7 +10,7 @@ use lib.ListN.{length}
 use Rattle.floor.specs.Lists.{isFirst, isLast}
 use Rattle.floor.specs.Jobs.{Entry, kindOf}
 use Rattle.stars.specs.Held.{toAt, entryAt, cells, startOf, endOf, heldStar}
-use Rattle.jobs.proofs.Writing.{length-cells}
+use Rattle.stars.proofs.Holding.{length-cells}
 use Rattle.turns.specs.Rewrites.{shiftOf}
 use Rattle.turns.proofs.Contacts.{part-star}
 

@@ -1,11 +1,11 @@
--- The steps by which the turned job's bytes are written. Assumes nothing.
-use Prim.Native.Nat.{ℕ, _+_, _-_}
+-- A star with one kind changed, and the job with both stars of a contact so. Assumes nothing.
+use Prim.Native.Nat.{ℕ, _-_}
 use mathlib.Core.Bool.{Bool, cond, _&&_}
 use mathlib.Core.List.{List, [], _∷_, map}
-use lib.ListN.{length, take, set}
+use lib.ListN.{length, set}
 use lib.Dec.{eqb}
 use Rattle.floor.specs.Lists.{isFirst, isLast}
-use Rattle.floor.specs.Jobs.{Star, Job, opposite, starOf, kindOf, writeStars}
+use Rattle.floor.specs.Jobs.{Star, Job, opposite, starOf, kindOf}
 use Rattle.floor.specs.Turns.{rekinded}
 
 -- v stands last of some numbers, where what is known of those before them holds if there are none
@@ -18,10 +18,6 @@ unfoldable pub shiftOf : Star → ℕ → ℕ → ℕ
 shiftOf s v k =
     cond (eqb (kindOf s v) 0 && eqb k 3 && isFirst v (map (λ e. e .to) s)) 1
     (cond (eqb (kindOf s v) 3 && eqb k 0 && isLast v (map (λ e. e .to) s)) (length s - 1) 0)
-
--- where the value of star i stands in the job, written: behind the first field, the stars before it and the head of its own field
-unfoldable pub valuePlace : Job → ℕ → ℕ
-valuePlace j i = 7 + length (writeStars (take i j))
 
 -- the job in which u names v with kind t, and v names u with the opposite kind
 unfoldable pub twoTurned : Job → ℕ → ℕ → ℕ → Job

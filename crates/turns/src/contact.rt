@@ -7,32 +7,37 @@ ghost use lib.ListN.{length, getD};
 ghost use Rattle.floor.specs.Lists.{isLast};
 ghost use Rattle.floor.specs.Lists.Laws.{bit};
 ghost use Rattle.floor.specs.Jobs.{kindOf, listOf};
-ghost use Rattle.floor.specs.Turns.{inContact};
-ghost use Rattle.stars.specs.Held.{toAt, heldStar, jobOf};
-use stars::Stars;
+ghost use Rattle.floor.specs.Turns.{turnedKind, inContact};
+ghost use Rattle.stars.specs.Held.{toAt, heldStar, jobIn};
 
 // Whether a number is a room's, of so many rooms.
-fn is_room(rooms: u8, v: usize) -> bool
-    ensures { λ r. ⌜ r ≡ (leb 4 v && leb v (rooms + 3)) ⌝ }
+fn is_room(count: usize, v: usize) -> bool
+    ensures { λ r. ⌜ r ≡ (leb 4 v && leb v (count + 3)) ⌝ }
 {
     if v < 4 {
         return false;
     }
-    v <= fields::wide(rooms) + 3
+    v - 4 < count
 }
 
 // Whether two numbers are rooms in contact.
-pub fn in_contact(stars: Stars, u: usize, v: usize) -> bool
-    ensures { λ r. ⌜ r ≡ inContact (jobOf stars) u v ⌝ }
+pub fn in_contact<'a>(
+    ends: &'a [u16],
+    nbr: &'a [u16],
+    kind: &'a [u8],
+    count: usize,
+    u: usize,
+    v: usize,
+) -> bool
+    ensures { λ r. ⌜ r ≡ inContact (jobIn count (now (ends .entry)) (now (nbr .entry)) (now (kind .entry))) u v ⌝ }
 {
-    if !is_room(stars.count, u) {
+    if !is_room(count, u) {
         return false;
     }
-    if !is_room(stars.count, v) {
+    if !is_room(count, v) {
         return false;
     }
-    let count = fields::wide(stars.count);
-    stars::held::star_names(&stars.ends, &stars.nbr, &stars.kind, count, u, v)
+    stars::held::star_names(ends, nbr, kind, count, u, v)
 }
 
 // The kind with which a star names a vertex; 4 where it does not.
@@ -56,6 +61,17 @@ pub fn leads(kind: u8) -> bool
         return true;
     }
     kind == 3
+}
+
+// The kind that a contact takes: the next side counterclockwise where the neighbour is last of its list, else the side before.
+pub fn turned_kind(kind: u8, last: bool) -> u8
+    ensures { λ r. ⌜ r ≡ turnedKind kind last ⌝ }
+{
+    let k = fields::wide(kind);
+    if last {
+        return ((k + 1) % 4) as u8;
+    }
+    ((k + 3) % 4) as u8
 }
 
 // One for an entry of the kind, nothing for any other.

@@ -3,7 +3,6 @@
 ghost use Prim.Native.Nat.{_<_};
 use jobs::Answer;
 use stars::Stars;
-use walls::Walls;
 
 // A number, with a space before it.
 fn show_number(n: u16) {
@@ -22,9 +21,9 @@ fn show_level(number: walls::F2) {
 }
 
 // A vertex and its walls: left, right, lower, upper.
-fn show_sides(walls: Walls, v: usize) {
+fn show_sides<'a>(xs: &'a [u16], ys: &'a [u16], v: usize) {
     io::print_decimal(1, v as u64);
-    let sides = walls::sides_of(walls, v);
+    let sides = walls::sides_at(xs, ys, v);
     let left = sides.left;
     let right = sides.right;
     let lower = sides.lower;
@@ -37,19 +36,19 @@ fn show_sides(walls: Walls, v: usize) {
 }
 
 // The walls of every room.
-fn show_rooms(walls: Walls, count: usize)
+fn show_rooms<'a>(xs: &'a [u16], ys: &'a [u16], count: usize)
     requires { ⌜ count < 256 ⌝ }
 {
     let mut i: usize = 0;
     while i < count {
-        show_sides(walls, 4 + i);
+        show_sides(xs, ys, 4 + i);
         i += 1;
     }
 }
 
 // The width and height of the sheet, and whether test 8 is passed.
-fn show_sheet(walls: Walls) {
-    let sheet = walls::sheet_of(walls);
+fn show_sheet<'a>(xs: &'a [u16], ys: &'a [u16]) {
+    let sheet = walls::sheet_at(xs, ys);
     io::write_all(1, b" ");
     io::print_decimal(1, sheet.width as u64);
     io::write_all(1, b" ");
@@ -64,12 +63,21 @@ fn show_sheet(walls: Walls) {
 // A name, and the walls of held stars.
 fn show_stars(name: &[u8], stars: Stars) {
     io::write_all(1, name);
-    let walls = walls::walls_of(stars);
+    let walls = walls::walls_of(
+        &stars.ends,
+        &stars.nbr,
+        &stars.kind,
+        fields::wide(stars.count),
+    );
     let answer = walls.answer;
     match answer {
         walls::Answer::Numbered => {
-            show_sheet(walls);
-            show_rooms(walls, fields::wide(stars.count));
+            let uprights = walls.uprights;
+            let levels = walls.levels;
+            let xs = uprights.0;
+            let ys = levels.0;
+            show_sheet(&xs, &ys);
+            show_rooms(&xs, &ys, fields::wide(stars.count));
         }
         walls::Answer::Circle => {
             io::write_all(1, b" circle\n");
@@ -138,15 +146,15 @@ fn join_contact(marks: &mut [u16; 128], u: usize, v: usize, kind: u8)
 }
 
 // The upright sides joined by one room's contacts.
-fn join_star(marks: &mut [u16; 128], stars: Stars, i: usize)
+fn join_star<'a>(marks: &mut [u16; 128], ends: &'a [u16], nbr: &'a [u16], kind: &'a [u8], i: usize)
     requires { ⌜ i < 256 ⌝ }
 {
-    let from = stars::held::start_of(&stars.ends, 360, i);
-    let end = stars::held::end_of(&stars.ends, 360, i);
+    let from = stars::held::start_of(ends, nbr.len(), i);
+    let end = stars::held::end_of(ends, nbr.len(), i);
     let mut k = from;
     while k < end {
-        let v = stars::held::to_at(&stars.nbr, k);
-        join_contact(marks, 4 + i, v, stars::held::kind_at(&stars.kind, k));
+        let v = stars::held::to_at(nbr, k);
+        join_contact(marks, 4 + i, v, stars::held::kind_at(kind, k));
         k += 1;
     }
 }
@@ -156,7 +164,7 @@ fn join_stars(marks: &mut [u16; 128], stars: Stars) {
     let count = fields::wide(stars.count);
     let mut i: usize = 0;
     while i < count {
-        join_star(marks, stars, i);
+        join_star(marks, &stars.ends, &stars.nbr, &stars.kind, i);
         i += 1;
     }
 }
@@ -189,7 +197,12 @@ fn show_twos(job: &[u8]) {
     let mut marks = [0u16; 128];
     mark_all(&mut marks);
     join_stars(&mut marks, stars);
-    let walls = walls::walls_of(stars);
+    let walls = walls::walls_of(
+        &stars.ends,
+        &stars.nbr,
+        &stars.kind,
+        fields::wide(stars.count),
+    );
     let uprights = walls.uprights;
     let numbers = uprights.0;
     io::write_all(1, b"upright walls numbered 2: ");

@@ -15,8 +15,7 @@ use Rattle.floor.specs.Jobs.{Entry, Job, isVertex, test2}
 use Rattle.floor.specs.Walls.{Rule, Axis, high, rules, jobNumbers}
 use Rattle.floor.specs.Walls.Relax.{Right, right-unique}
 use Rattle.floor.specs.Walls.Rules.{jobNumbers-right}
-use Rattle.stars.specs.declared.Stars.{Stars}
-use Rattle.stars.specs.Held.{starsIn, jobOf}
+use Rattle.stars.specs.Held.{jobIn}
 use Rattle.stars.proofs.Holding.{length-stars}
 use Rattle.walls.specs.Steps.{Answers, Fronts}
 use Rattle.walls.specs.Jobs.{entryNamed, starNamed, named}
@@ -49,74 +48,75 @@ noughts-behind zero m h = refl
 noughts-behind (suc n) zero h = absurd (omega arith)
 noughts-behind (suc n) (suc m) h = ap (λ (l : List ℕ). 0 ∷ l) (noughts-behind n m (omega arith))
 
-module _ (h : Stars) where
+module _ (ends nbr kind : List ℕ) (n : ℕ) where
+  abbrev job : Job
+  job = jobIn n ends nbr kind
+
   abbrev good : Bool
-  good = test2 (length (jobOf h)) && vertices (jobOf h)
+  good = test2 (length job) && vertices job
 
   pub held-none : (b : Bool) (a : Axis) (l : List ℕ) → b ≡ good → not b ≡ true → l ≡ replicate 128 0
-      → record { found = false; list = l } ≡ numbersHeld (numbersIn a (jobOf h))
+      → record { found = false; list = l } ≡ numbersHeld (numbersIn a job)
   unfolding numbersHeld numbersIn
   held-none b a l q f e = let g : good ≡ false = sym q ∙ not-true b f in rw (g, e)
 
-module _ (h : Stars) (n : ℕ) (ec : n ≡ h .count) where
-  held-job : starsIn n 0 (h .ends) (h .nbr) (h .kind) ≡ jobOf h
-  unfolding jobOf
-  held-job = rw ec
+  held-rooms : length job ≡ n
+  held-rooms = length-stars n 0 ends nbr kind
 
-  held-rooms : length (jobOf h) ≡ n
-  held-rooms = rw (← held-job) (length-stars n 0 (h .ends) (h .nbr) (h .kind))
-
-  pub no-room : n ≡ 0 → false ≡ good h
+  pub no-room : n ≡ 0 → false ≡ good
   unfolding test2
   no-room z = rw (held-rooms, z)
 
-  pub many-rooms : 60 < n → false ≡ good h
+  pub many-rooms : 60 < n → false ≡ good
   unfolding test2
   many-rooms z = rw (held-rooms, le-leb 1 n (omega arith), lt-leb n 60 z)
 
-  pub some-rooms : (r : Bool) → (n ≡ 0 → ⊥) → n ≤ 60 → r ≡ named (2 * (n + 4)) (starsIn n 0 (h .ends) (h .nbr) (h .kind)) → r ≡ good h
+  pub some-rooms : (r : Bool) → (n ≡ 0 → ⊥) → n ≤ 60 → r ≡ named (2 * (n + 4)) job → r ≡ good
   unfolding test2
   some-rooms r x y q =
-      rw (vertices-named (jobOf h), held-rooms, le-leb 1 n (omega arith), le-leb n 60 y) (rw held-job at q)
+      rw (vertices-named job, held-rooms, le-leb 1 n (omega arith), le-leb n 60 y) q
 
-  module _ (b : Bool) (q : b ≡ good h) (no : not b ≡ false) where
-    both-good : good h ≡ true
+  module _ (b : Bool) (q : b ≡ good) (no : not b ≡ false) where
+    both-good : good ≡ true
     both-good = sym q ∙ not-false b no
 
     pub rooms-fit : n ≤ 60
     unfolding test2
     rooms-fit =
-        let t : test2 (length (jobOf h)) ≡ true = and-left (test2 (length (jobOf h))) (vertices (jobOf h)) both-good in
-        omega (arith, held-rooms, leb-true (length (jobOf h)) 60 (and-right (leb 1 (length (jobOf h))) (leb (length (jobOf h)) 60) t))
+        let t : test2 (length job) ≡ true = and-left (test2 (length job)) (vertices job) both-good in
+        omega (arith, held-rooms, leb-true (length job) 60 (and-right (leb 1 (length job)) (leb (length job) 60) t))
+
+    pub rooms-few : n < 65535
+    rooms-few = omega (arith, rooms-fit)
 
     pub rooms-hold : (l : List ℕ) → l ≡ replicate 128 0 → 2 * (n + 4) ≤ length l
     rooms-hold l e′ = rw e′ (omega (arith, rooms-fit, length-replicate {A = ℕ} 128 0))
 
-    pub all-vertices : named (2 * (n + 4)) (starsIn n 0 (h .ends) (h .nbr) (h .kind)) ≡ true
+    pub all-vertices : named (2 * (n + 4)) job ≡ true
     all-vertices =
-        let v : vertices (jobOf h) ≡ true = and-right (test2 (length (jobOf h))) (vertices (jobOf h)) both-good in
-        rw held-job (rw held-rooms at (sym (vertices-named (jobOf h)) ∙ v))
+        let v : vertices job ≡ true = and-right (test2 (length job)) (vertices job) both-good in
+        rw held-rooms at (sym (vertices-named job) ∙ v)
 
-    one-way : (a : Axis) → numbersIn a (jobOf h) ≡ jobNumbers a (jobOf h)
+    one-way : (a : Axis) → numbersIn a job ≡ jobNumbers a job
     unfolding numbersIn
     one-way a = rw both-good
 
-    right : (a : Axis) → Right (rules a (jobOf h)) (2 * (n + 4)) (jobNumbers a (jobOf h))
-    right a = rw held-rooms at (jobNumbers-right a (jobOf h) (all-named (2 * (n + 4)) (jobOf h) (rw held-job at all-vertices) (omega (arith, held-rooms))))
+    right : (a : Axis) → Right (rules a job) (2 * (n + 4)) (jobNumbers a job)
+    right a = rw held-rooms at (jobNumbers-right a job (all-named (2 * (n + 4)) job all-vertices (omega (arith, held-rooms))))
 
-    pub held-numbers : (a : Axis) (r : Bool) (l l′ : List ℕ) → l ≡ replicate 128 0 → Fronts r (rules a (starsIn n 0 (h .ends) (h .nbr) (h .kind)))
+    pub held-numbers : (a : Axis) (r : Bool) (l l′ : List ℕ) → l ≡ replicate 128 0 → Fronts r (rules a job)
         (2 * (n + 4)) l l′
-        → record { found = r; list = l′ } ≡ numbersHeld (numbersIn a (jobOf h))
+        → record { found = r; list = l′ } ≡ numbersHeld (numbersIn a job)
     unfolding numbersHeld
-    held-numbers a r l l′ e x = go r (x .front) (rw held-job at (x .answers)) (rw e at (x .is))
+    held-numbers a r l l′ e x = go r (x .front) (x .answers) (rw e at (x .is))
       where
-        go : (b : Bool) (f : List ℕ) → Answers b (rules a (jobOf h)) f (2 * (n + 4)) → l′ ≡ f ++ drop (2 * (n + 4)) (replicate 128 0)
-            → record { found = b; list = l′ } ≡ numbersHeld (numbersIn a (jobOf h))
+        go : (b : Bool) (f : List ℕ) → Answers b (rules a job) f (2 * (n + 4)) → l′ ≡ f ++ drop (2 * (n + 4)) (replicate 128 0)
+            → record { found = b; list = l′ } ≡ numbersHeld (numbersIn a job)
         go true f y z =
-            let u : jobNumbers a (jobOf h) ≡ some f = right-unique (rules a (jobOf h)) (2 * (n + 4)) (jobNumbers a (jobOf h)) (some f) (right a) y in
+            let u : jobNumbers a job ≡ some f = right-unique (rules a job) (2 * (n + 4)) (jobNumbers a job) (some f) (right a) y in
             rw (one-way a, u, z, y .1)
         go false f y z =
-            let u : jobNumbers a (jobOf h) ≡ none = right-unique (rules a (jobOf h)) (2 * (n + 4)) (jobNumbers a (jobOf h)) none (right a) (y .0) in
+            let u : jobNumbers a job ≡ none = right-unique (rules a job) (2 * (n + 4)) (jobNumbers a job) none (right a) (y .0) in
             rw (one-way a, u, z, y .1, noughts-behind (2 * (n + 4)) 128 (omega (arith, rooms-fit)))
 
 -- the first numbers of a list

@@ -7,10 +7,9 @@ use native.Mathlib.Omega.{arith}
 use borrow.Author.Tests.{le-leb, lt-leb}
 use lib.Dec.{leb}
 use lib.ListN.{length, getD, List·getD-eq-default}
-use Rattle.walls.specs.declared.Walls.{Walls}
 use Rattle.walls.specs.declared.Sides.{Sides}
 use Rattle.walls.specs.declared.Sheet.{Sheet}
-use Rattle.walls.specs.Numbers.{sidesOf, sheetOf}
+use Rattle.walls.specs.Numbers.{sidesAt, sheetAt}
 
 -- a side past the list
 pub no-vertex : (l : List ℕ) (v on : ℕ) → length l ≤ v → 0 ≡ getD l (2 * v + on) 0
@@ -19,14 +18,14 @@ no-vertex l v on h = sym (List·getD-eq-default l 0 (omega arith))
 pub no-side : (l : List ℕ) (v on : ℕ) → length l ≤ 2 * v + on → 0 ≡ getD l (2 * v + on) 0
 no-side l v on h = sym (List·getD-eq-default l 0 h)
 
-pub four-sides : (w : Walls) (v x y z u : ℕ) → x ≡ getD (w .uprights .0) (2 * v + 0) 0 → y ≡ getD (w .uprights .0) (2 * v + 1) 0
-    → z ≡ getD (w .levels .0) (2 * v + 0) 0 → u ≡ getD (w .levels .0) (2 * v + 1) 0
-    → _≡_ {A = Sides} (record { left = record { 0 = x }; right = record { 0 = y }; lower = record { 0 = z }; upper = record { 0 = u } }) (sidesOf w v)
-four-sides w v x y z u a b c d = let e : 2 * v + 0 ≡ 2 * v = omega arith in rw (rw e at a, b, rw e at c, d)
+pub four-sides : (xs ys : List ℕ) (v x y z u : ℕ) → x ≡ getD xs (2 * v + 0) 0 → y ≡ getD xs (2 * v + 1) 0 → z ≡ getD ys (2 * v + 0) 0
+    → u ≡ getD ys (2 * v + 1) 0
+    → _≡_ {A = Sides} (record { left = record { 0 = x }; right = record { 0 = y }; lower = record { 0 = z }; upper = record { 0 = u } }) (sidesAt xs ys v)
+four-sides xs ys v x y z u a b c d = let e : 2 * v + 0 ≡ 2 * v = omega arith in rw (rw e at a, b, rw e at c, d)
 
-pub the-sheet : (w : Walls) (e n : Sides) (x y : ℕ) → e ≡ sidesOf w 3 → n ≡ sidesOf w 0 → x ≡ e .left .0 → y ≡ n .lower .0
-    → _≡_ {A = Sheet} (record { width = x + 1; height = y + 1 }) (sheetOf w)
-the-sheet w e n x y p q a b = rw (a, b, p, q)
+pub the-sheet : (xs ys : List ℕ) (e n : Sides) (x y : ℕ) → e ≡ sidesAt xs ys 3 → n ≡ sidesAt xs ys 0 → x ≡ e .left .0 → y ≡ n .lower .0
+    → _≡_ {A = Sheet} (record { width = x + 1; height = y + 1 }) (sheetAt xs ys)
+the-sheet xs ys e n x y p q a b = rw (a, b, p, q)
 
 pub too-wide : (w h : ℕ) → 64 < w → false ≡ (leb w 64 && leb h 64)
 too-wide w h l = rw (lt-leb w 64 l)

@@ -11,7 +11,7 @@ use Rattle.floor.specs.Lists.Laws.{all-mem, mem-getD}
 use Rattle.floor.specs.Jobs.{Entry, Job}
 use Rattle.floor.specs.Walls.{Rule, before, low, high, entryRules, rules}
 use Rattle.floor.specs.Walls.Rules.{Told, Named, entry-every, every-told, job-walk}
-use Rattle.stars.specs.Held.{toAt, entryAt, cells, startOf, endOf, heldStar, starsIn}
+use Rattle.stars.specs.Held.{toAt, entryAt, cells, startOf, endOf, heldStar, jobIn}
 use Rattle.stars.specs.Pairs.{pair}
 use Rattle.stars.proofs.Holding.{star-in, length-stars}
 use Rattle.walls.specs.declared.Step.{Step}
@@ -47,33 +47,32 @@ cells-mem nbr kind (suc n) from k l h = go (ℕ-discrete k from) (λ a. cells-me
 
 module _ (ends nbr kind : List ℕ) (n : ℕ) where
   abbrev job : Job
-  job = starsIn n 0 ends nbr kind
+  job = jobIn n ends nbr kind
 
-  module _ (u k from end : ℕ) (l : 4 ≤ u) (h : u - 4 < n) (ef : from ≡ startOf ends (length nbr) (u - 4)) (ee : end ≡ endOf ends (length nbr) (u - 4))
-      (lf : from ≤ k) (le : k < end) where
-    here : List·Memᴰ (entryAt nbr kind k) (getD job (u - 4) [])
+  module _ (i k : ℕ) (h : i < n) (lf : startOf ends (length nbr) i ≤ k) (le : k < endOf ends (length nbr) i) where
+    here : List·Memᴰ (entryAt nbr kind k) (getD job i [])
     unfolding heldStar
     here =
-        let z : 0 + (u - 4) ≡ u - 4 = omega arith in
-        rw (star-in n 0 (u - 4) ends nbr kind h, z, ← ef, ← ee) (cells-mem nbr kind (end - from) from k lf (omega arith))
+        let z : 0 + i ≡ i = omega arith in
+        rw (star-in n 0 i ends nbr kind h, z)
+        (cells-mem nbr kind (endOf ends (length nbr) i - startOf ends (length nbr) i) (startOf ends (length nbr) i) k lf (omega arith))
 
     pub visit-named : (m v x : ℕ) → named m job ≡ true → v ≡ toAt nbr k → x ≡ m → high v < x
     unfolding entryAt
-    visit-named m v x b e q = rw (e, q) (named-entry m job b (u - 4) (omega (arith, length-stars n 0 ends nbr kind)) (entryAt nbr kind k) here)
+    visit-named m v x b e q = rw (e, q) (named-entry m job b i (omega (arith, length-stars n 0 ends nbr kind)) (entryAt nbr kind k) here)
 
-    among : (w : Direction) → Among (entryRules (axisOf w) u (entryAt nbr kind k)) (rules (axisOf w) job)
+    among : (w : Direction) → Among (entryRules (axisOf w) (4 + i) (entryAt nbr kind k)) (rules (axisOf w) job)
     among w =
         let t : Told (λ r. List·Memᴰ r (rules (axisOf w) job)) (axisOf w) 4 job = every-told (λ r. List·Memᴰ r (rules (axisOf w) job)) (axisOf w) 4 job
         (λ r m. m) in
-        let z : 4 + (u - 4) ≡ u = omega arith in
-        rw z at (entry-every (λ r. List·Memᴰ r (rules (axisOf w) job)) (axisOf w) (4 + (u - 4)) (entryAt nbr kind k)
-        (t .each (u - 4) (omega (arith, length-stars n 0 ends nbr kind)) (entryAt nbr kind k) here))
+        entry-every (λ r. List·Memᴰ r (rules (axisOf w) job)) (axisOf w) (4 + i) (entryAt nbr kind k)
+        (t .each i (omega (arith, length-stars n 0 ends nbr kind)) (entryAt nbr kind k) here)
 
     pub visit-climbs : (w : Direction) (s : Step) (f f′ : List ℕ) (top v x : ℕ) → v ≡ toAt nbr k → x ≡ getD kind k 0
-        → Ran s (entryRules (axisOf w) u (pair v x)) f f′ top → Climbs s (rules (axisOf w) job) f f′ top
+        → Ran s (entryRules (axisOf w) (4 + i) (pair v x)) f f′ top → Climbs s (rules (axisOf w) job) f f′ top
     unfolding entryAt
     visit-climbs w s f f′ top v x ev ex p =
-        ran-climbs (entryRules (axisOf w) u (entryAt nbr kind k)) (rules (axisOf w) job) f f′ top s (among w) (rw (ev, ex) at p)
+        ran-climbs (entryRules (axisOf w) (4 + i) (entryAt nbr kind k)) (rules (axisOf w) job) f f′ top s (among w) (rw (ev, ex) at p)
 
   pub own-climbs : (w : Direction) (i : ℕ) (s : Step) (f f′ : List ℕ) (top : ℕ) → i < n → Ran s (before (low (4 + i)) (high (4 + i)) 0 ∷ []) f f′ top
       → Climbs s (rules (axisOf w) job) f f′ top
@@ -92,10 +91,17 @@ pub climbs-more : (E : List Rule) (f f₁ f₂ : List ℕ) (top : ℕ) (s t r : 
     → Climbs r E f f₂ top
 climbs-more E f f₁ f₂ top s t r p q e = rw e (climbs-both E f f₁ f₂ top s t p q)
 
+-- a place of a star, by where the star starts and ends
+pub place-low : (ends : List ℕ) (most i start k : ℕ) → start ≡ startOf ends most i → start ≤ k → startOf ends most i ≤ k
+place-low ends most i start k e h = rw (← e) h
+
+pub place-high : (ends : List ℕ) (most i end k : ℕ) → end ≡ endOf ends most i → k < end → k < endOf ends most i
+place-high ends most i end k e h = rw (← e) h
+
 -- where numbers can be put on a job's walls, no walk passes n + 1
-pub job-enough : (ends nbr kind : List ℕ) (n m top : ℕ) (w : Direction) → named m (starsIn n 0 ends nbr kind) ≡ true → m ≡ 2 * (n + 4) → top ≡ n + 1
-    → Enough (rules (axisOf w) (starsIn n 0 ends nbr kind)) top
+pub job-enough : (ends nbr kind : List ℕ) (n m top : ℕ) (w : Direction) → named m (jobIn n ends nbr kind) ≡ true → m ≡ 2 * (n + 4) → top ≡ n + 1
+    → Enough (rules (axisOf w) (jobIn n ends nbr kind)) top
 job-enough ends nbr kind n m top w b e q g r s v walk =
-    let j : Job = starsIn n 0 ends nbr kind in
+    let j : Job = jobIn n ends nbr kind in
     let l : length j ≡ n = length-stars n 0 ends nbr kind in
     omega (arith, job-walk (axisOf w) j (all-named m j b (omega arith)) g r s v walk)

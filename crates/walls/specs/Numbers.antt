@@ -54,16 +54,24 @@ wallsFrom none b = noWalls
 unfoldable pub wallsOf : Job → Walls
 wallsOf j = wallsFrom (numbersIn upright j) (numbersIn level j)
 
--- THE WALLS ON THE FOUR SIDES of a vertex
-abbrev pub sidesOf : Walls → ℕ → Sides
-sidesOf w v =
+-- the walls on the four sides of a vertex, by the upright numbers and the level ones
+abbrev pub sidesAt : List ℕ → List ℕ → ℕ → Sides
+sidesAt xs ys v =
     record {
-      left = record { 0 = getD (w .uprights .0) (low v) 0 };
-      right = record { 0 = getD (w .uprights .0) (high v) 0 };
-      lower = record { 0 = getD (w .levels .0) (low v) 0 };
-      upper = record { 0 = getD (w .levels .0) (high v) 0 };
+      left = record { 0 = getD xs (low v) 0 };
+      right = record { 0 = getD xs (high v) 0 };
+      lower = record { 0 = getD ys (low v) 0 };
+      upper = record { 0 = getD ys (high v) 0 };
     }
 
--- THE SHEET: the number of E's left wall plus 1, and that of N's bottom wall plus 1
+-- THE WALLS ON THE FOUR SIDES of a vertex
+abbrev pub sidesOf : Walls → ℕ → Sides
+sidesOf w v = sidesAt (w .uprights .0) (w .levels .0) v
+
+-- the sheet by the upright numbers and the level ones: the number of E's left wall plus 1, and that of N's bottom wall plus 1
+abbrev pub sheetAt : List ℕ → List ℕ → Sheet
+sheetAt xs ys = record { width = sidesAt xs ys 3 .left .0 + 1; height = sidesAt xs ys 0 .lower .0 + 1 }
+
+-- THE SHEET of walls
 abbrev pub sheetOf : Walls → Sheet
-sheetOf w = record { width = sidesOf w 3 .left .0 + 1; height = sidesOf w 0 .lower .0 + 1 }
+sheetOf w = sheetAt (w .uprights .0) (w .levels .0)

@@ -6,11 +6,10 @@ ghost use lib.Dec.{leb};
 ghost use lib.ListN.{length, getD, replicate};
 ghost use Rattle.floor.specs.Jobs.{test2};
 ghost use Rattle.floor.specs.Walls.{rules};
-ghost use Rattle.stars.specs.Held.{starsIn, jobOf};
+ghost use Rattle.stars.specs.Held.{jobIn};
 ghost use Rattle.walls.specs.Jobs.{axisOf, named};
 ghost use Rattle.walls.specs.Steps.{Fronts};
-ghost use Rattle.walls.specs.Numbers.{vertices, numbersIn, numbersHeld, noWalls, wallsOf, sidesOf, sheetOf};
-use stars::Stars;
+ghost use Rattle.walls.specs.Numbers.{vertices, numbersIn, numbersHeld, noWalls, wallsOf, sidesAt, sheetAt};
 
 mod steps; // steps.rt: one rule, and what it does to the numbers
 mod rules; // rules.rt: the rules of an entry, a star, a room, a job
@@ -76,17 +75,17 @@ pub struct Sheet {
 }
 
 // Whether the stars are a job that can be numbered: as many rooms as test 2 allows, and every neighbour a vertex.
-fn can_number(stars: Stars) -> bool
-    ensures { λ r. ⌜ r ≡ (test2 (length (jobOf stars)) && vertices (jobOf stars)) ⌝ }
+fn can_number<'a>(ends: &'a [u16], nbr: &'a [u16], kind: &'a [u8], count: usize) -> bool
+    ensures { λ r. ⌜ r ≡ (test2 (length (jobIn count (now (ends .entry)) (now (nbr .entry)) (now (kind .entry))))
+        && vertices (jobIn count (now (ends .entry)) (now (nbr .entry)) (now (kind .entry)))) ⌝ }
 {
-    let count = fields::wide(stars.count);
     if count == 0 {
         return false;
     }
     if 60 < count {
         return false;
     }
-    vertices::all_named(&stars.ends, &stars.nbr, &stars.kind, count, 2 * (count + 4))
+    vertices::all_named(ends, nbr, kind, count, 2 * (count + 4))
 }
 
 // Noughts, one for each side of 64 vertices.
@@ -105,8 +104,8 @@ fn number_front<'a>(
     kind: &'a [u8],
     count: usize,
 ) -> bool
-    requires { ⌜ (count < 256) × (2 * (count + 4) ≤ length (now list)) × (named (2 * (count + 4)) (starsIn count 0 (now ends) (now nbr) (now kind)) ≡ true) ⌝ }
-    ensures { λ r. ⌜ Fronts r (rules (axisOf way) (starsIn count 0 (now (ends .entry)) (now (nbr .entry)) (now (kind .entry))))
+    requires { ⌜ (count < 65535) × (2 * (count + 4) ≤ length (now list)) × (named (2 * (count + 4)) (jobIn count (now ends) (now nbr) (now kind)) ≡ true) ⌝ }
+    ensures { λ r. ⌜ Fronts r (rules (axisOf way) (jobIn count (now (ends .entry)) (now (nbr .entry)) (now (kind .entry))))
         (2 * (count + 4)) (now (list .entry)) (now (list .exit)) ⌝ }
 {
     let sides = 2 * (count + 4);
@@ -114,18 +113,23 @@ fn number_front<'a>(
 }
 
 // The numbers in one direction.
-fn numbers_in(stars: Stars, way: Direction) -> Numbers
-    ensures { λ r. ⌜ r ≡ numbersHeld (numbersIn (axisOf way) (jobOf stars)) ⌝ }
+fn numbers_in<'a>(
+    ends: &'a [u16],
+    nbr: &'a [u16],
+    kind: &'a [u8],
+    count: usize,
+    way: Direction,
+) -> Numbers
+    ensures { λ r. ⌜ r ≡ numbersHeld (numbersIn (axisOf way) (jobIn count (now (ends .entry)) (now (nbr .entry)) (now (kind .entry)))) ⌝ }
 {
     let mut list = noughts();
-    if !can_number(stars) {
+    if !can_number(ends, nbr, kind, count) {
         return Numbers {
             found: false,
             list: list,
         };
     }
-    let count = fields::wide(stars.count);
-    let found = number_front(&mut list, way, &stars.ends, &stars.nbr, &stars.kind, count);
+    let found = number_front(&mut list, way, ends, nbr, kind, count);
     Numbers {
         found: found,
         list: list,
@@ -145,14 +149,14 @@ fn no_walls() -> Walls
 }
 
 // The numbers in both directions, or that the walls run in a circle.
-pub fn walls_of(stars: Stars) -> Walls
-    ensures { λ r. ⌜ r ≡ wallsOf (jobOf stars) ⌝ }
+pub fn walls_of<'a>(ends: &'a [u16], nbr: &'a [u16], kind: &'a [u8], count: usize) -> Walls
+    ensures { λ r. ⌜ r ≡ wallsOf (jobIn count (now (ends .entry)) (now (nbr .entry)) (now (kind .entry))) ⌝ }
 {
-    let upright = numbers_in(stars, Direction::Upright);
+    let upright = numbers_in(ends, nbr, kind, count, Direction::Upright);
     if !upright.found {
         return no_walls();
     }
-    let level = numbers_in(stars, Direction::Level);
+    let level = numbers_in(ends, nbr, kind, count, Direction::Level);
     if !level.found {
         return no_walls();
     }
@@ -180,18 +184,14 @@ fn side_number(list: &[u16], v: usize, on: usize) -> u16
     list[side]
 }
 
-// The walls on the four sides of a vertex; noughts for a number that is none.
-pub fn sides_of(walls: Walls, v: usize) -> Sides
-    ensures { λ r. ⌜ r ≡ sidesOf walls v ⌝ }
+// The walls on the four sides of a vertex by the upright and the level numbers; noughts for a number that is none.
+pub fn sides_at<'a>(xs: &'a [u16], ys: &'a [u16], v: usize) -> Sides
+    ensures { λ r. ⌜ r ≡ sidesAt (now (xs .entry)) (now (ys .entry)) v ⌝ }
 {
-    let uprights = walls.uprights;
-    let levels = walls.levels;
-    let xs = uprights.0;
-    let ys = levels.0;
-    let left = side_number(&xs, v, 0);
-    let right = side_number(&xs, v, 1);
-    let lower = side_number(&ys, v, 0);
-    let upper = side_number(&ys, v, 1);
+    let left = side_number(xs, v, 0);
+    let right = side_number(xs, v, 1);
+    let lower = side_number(ys, v, 0);
+    let upper = side_number(ys, v, 1);
     Sides {
         left: F1(left),
         right: F1(right),
@@ -201,11 +201,11 @@ pub fn sides_of(walls: Walls, v: usize) -> Sides
 }
 
 // The sheet: E's left wall and N's bottom wall, and one cell more.
-pub fn sheet_of(walls: Walls) -> Sheet
-    ensures { λ r. ⌜ r ≡ sheetOf walls ⌝ }
+pub fn sheet_at<'a>(xs: &'a [u16], ys: &'a [u16]) -> Sheet
+    ensures { λ r. ⌜ r ≡ sheetAt (now (xs .entry)) (now (ys .entry)) ⌝ }
 {
-    let east = sides_of(walls, 3);
-    let north = sides_of(walls, 0);
+    let east = sides_at(xs, ys, 3);
+    let north = sides_at(xs, ys, 0);
     let left = east.left;
     let lower = north.lower;
     let x = left.0;

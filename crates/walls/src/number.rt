@@ -5,7 +5,7 @@ ghost use Prim.Native.Nat.{_+_, _*_, _≤_, _<_};
 ghost use lib.ListN.{length, replicate};
 ghost use Rattle.floor.specs.Walls.{rules};
 ghost use Rattle.floor.specs.Walls.Relax.{Reached};
-ghost use Rattle.stars.specs.Held.{starsIn};
+ghost use Rattle.stars.specs.Held.{startOf, endOf, jobIn};
 ghost use Rattle.walls.specs.Steps.{Answers, Capped, Climbs, Enough};
 ghost use Rattle.walls.specs.Jobs.{axisOf, named};
 use crate::Direction;
@@ -32,10 +32,10 @@ fn settle<'a>(
     count: usize,
     top: u16,
 ) -> bool
-    requires { ⌜ (count < 256) × (length (now f) ≡ 2 * (count + 4)) × (named (length (now f)) (starsIn count 0 (now ends) (now nbr) (now kind)) ≡ true)
-        × Enough (rules (axisOf way) (starsIn count 0 (now ends) (now nbr) (now kind))) top
-        × Reached (rules (axisOf way) (starsIn count 0 (now ends) (now nbr) (now kind))) (now f) × Capped (now f) top ⌝ }
-    ensures { λ r. ⌜ Answers r (rules (axisOf way) (starsIn count 0 (now (ends .entry)) (now (nbr .entry)) (now (kind .entry))))
+    requires { ⌜ (count < 65535) × (length (now f) ≡ 2 * (count + 4)) × (named (length (now f)) (jobIn count (now ends) (now nbr) (now kind)) ≡ true)
+        × Enough (rules (axisOf way) (jobIn count (now ends) (now nbr) (now kind))) top
+        × Reached (rules (axisOf way) (jobIn count (now ends) (now nbr) (now kind))) (now f) × Capped (now f) top ⌝ }
+    ensures { λ r. ⌜ Answers r (rules (axisOf way) (jobIn count (now (ends .entry)) (now (nbr .entry)) (now (kind .entry))))
         (now (f .exit)) (length (now (f .entry))) ⌝ }
 {
     loop {
@@ -53,7 +53,7 @@ fn settle<'a>(
     }
 }
 
-// The rules of the entry at place k, if it is one of room u's.
+// The rules of the entry at a place of room 4 + i's star.
 fn visit_entry<'a>(
     f: &mut [u16],
     way: Direction,
@@ -61,33 +61,21 @@ fn visit_entry<'a>(
     nbr: &'a [u16],
     kind: &'a [u8],
     count: usize,
-    u: usize,
+    i: usize,
     k: usize,
     top: u16,
 ) -> Step
-    requires { ⌜ (count < 256) × (length (now f) ≡ 2 * (count + 4)) × (named (length (now f)) (starsIn count 0 (now ends) (now nbr) (now kind)) ≡ true) ⌝ }
-    ensures { λ r. ⌜ Climbs r (rules (axisOf way) (starsIn count 0 (now (ends .entry)) (now (nbr .entry)) (now (kind .entry))))
+    requires { ⌜ (count < 65535) × (length (now f) ≡ 2 * (count + 4)) × (named (length (now f)) (jobIn count (now ends) (now nbr) (now kind)) ≡ true)
+        × (i < count) × (startOf (now ends) (length (now nbr)) i ≤ k) × (k < endOf (now ends) (length (now nbr)) i) ⌝ }
+    ensures { λ r. ⌜ Climbs r (rules (axisOf way) (jobIn count (now (ends .entry)) (now (nbr .entry)) (now (kind .entry))))
         (now (f .entry)) (now (f .exit)) top ⌝ }
 {
-    if u < 4 {
-        return Step::Kept;
-    }
-    if count <= u - 4 {
-        return Step::Kept;
-    }
-    let from = stars::held::start_of(ends, nbr.len(), u - 4);
-    let end = stars::held::end_of(ends, nbr.len(), u - 4);
-    if k < from {
-        return Step::Kept;
-    }
-    if end <= k {
-        return Step::Kept;
-    }
+    let this = stars::held::kind_at(kind, k);
     let v = stars::held::to_at(nbr, k);
-    crate::rules::entry(f, way, u, v, stars::held::kind_at(kind, k), top)
+    crate::rules::entry(f, way, 4 + i, v, this, top)
 }
 
-// A visit: the entry at a place, with the room that it may be of; or, past the places, the rule that a room's low wall comes before its high one.
+// A visit: the rules of the entry at a place of room 4 + i's star, or for 65535 the room's own rule; nothing where there is no such room, or the place lies outside its star.
 fn visit<'a>(
     f: &mut [u16],
     way: Direction,
@@ -95,23 +83,27 @@ fn visit<'a>(
     nbr: &'a [u16],
     kind: &'a [u8],
     count: usize,
-    u: usize,
+    i: usize,
     k: usize,
     top: u16,
 ) -> Step
-    requires { ⌜ (count < 256) × (length (now f) ≡ 2 * (count + 4)) × (named (length (now f)) (starsIn count 0 (now ends) (now nbr) (now kind)) ≡ true) ⌝ }
-    ensures { λ r. ⌜ Climbs r (rules (axisOf way) (starsIn count 0 (now (ends .entry)) (now (nbr .entry)) (now (kind .entry))))
+    requires { ⌜ (count < 65535) × (length (now f) ≡ 2 * (count + 4)) × (named (length (now f)) (jobIn count (now ends) (now nbr) (now kind)) ≡ true) ⌝ }
+    ensures { λ r. ⌜ Climbs r (rules (axisOf way) (jobIn count (now (ends .entry)) (now (nbr .entry)) (now (kind .entry))))
         (now (f .entry)) (now (f .exit)) top ⌝ }
 {
-    let most = nbr.len();
-    if k < most {
-        return visit_entry(f, way, ends, nbr, kind, count, u, k, top);
-    }
-    let i = k - most;
     if count <= i {
         return Step::Kept;
     }
-    crate::steps::apply(f, 2 * (4 + i), 2 * (4 + i) + 1, 1, top)
+    if k == 65535 {
+        return crate::steps::apply(f, 2 * (4 + i), 2 * (4 + i) + 1, 1, top);
+    }
+    if k < stars::held::start_of(ends, nbr.len(), i) {
+        return Step::Kept;
+    }
+    if stars::held::end_of(ends, nbr.len(), i) <= k {
+        return Step::Kept;
+    }
+    visit_entry(f, way, ends, nbr, kind, count, i, k, top)
 }
 
 // The number at a place of a list, 0 past its end.
@@ -124,7 +116,18 @@ fn number_at(list: &[u16], i: usize) -> usize
     fields::number(list[i])
 }
 
-// The visits from one place of an order to another. Whatever the order names, only the time goes by it.
+// Two places on, and not past the end.
+fn two_on(at: usize, to: usize) -> usize
+    requires { ⌜ at < to ⌝ }
+    ensures { λ r. ⌜ (at < r) × (r ≤ to) ⌝ }
+{
+    if to - at < 2 {
+        return to;
+    }
+    at + 2
+}
+
+// The visits from one place of an order to another, two numbers each. Whatever they name, only the time goes by it.
 fn climb<'a>(
     f: &mut [u16],
     way: Direction,
@@ -132,24 +135,23 @@ fn climb<'a>(
     nbr: &'a [u16],
     kind: &'a [u8],
     count: usize,
-    owner: &'a [u16],
     visits: &'a [u16],
     from: usize,
     to: usize,
     top: u16,
 ) -> Step
-    requires { ⌜ (count < 256) × (length (now f) ≡ 2 * (count + 4)) × (named (length (now f)) (starsIn count 0 (now ends) (now nbr) (now kind)) ≡ true) ⌝ }
-    ensures { λ r. ⌜ Climbs r (rules (axisOf way) (starsIn count 0 (now (ends .entry)) (now (nbr .entry)) (now (kind .entry))))
+    requires { ⌜ (count < 65535) × (length (now f) ≡ 2 * (count + 4)) × (named (length (now f)) (jobIn count (now ends) (now nbr) (now kind)) ≡ true) ⌝ }
+    ensures { λ r. ⌜ Climbs r (rules (axisOf way) (jobIn count (now (ends .entry)) (now (nbr .entry)) (now (kind .entry))))
         (now (f .entry)) (now (f .exit)) top ⌝ }
 {
     let mut done = Step::Kept;
     let mut at = from;
     while at < to {
-        let k = number_at(visits, at);
-        let u = number_at(owner, k);
-        let did = visit(f, way, ends, nbr, kind, count, u, k, top);
+        let i = number_at(visits, at);
+        let k = number_at(visits, at + 1);
+        let did = visit(f, way, ends, nbr, kind, count, i, k, top);
         done = crate::steps::both_of(done, did);
-        at += 1;
+        at = two_on(at, to);
     }
     done
 }
@@ -174,20 +176,19 @@ fn go_round<'a>(
     nbr: &'a [u16],
     kind: &'a [u8],
     count: usize,
-    owner: &'a [u16],
     visits: &'a [u16],
     from: usize,
     to: usize,
     top: u16,
 ) -> Step
-    requires { ⌜ (count < 256) × (length (now f) ≡ 2 * (count + 4)) × (named (length (now f)) (starsIn count 0 (now ends) (now nbr) (now kind)) ≡ true) ⌝ }
-    ensures { λ r. ⌜ Climbs r (rules (axisOf way) (starsIn count 0 (now (ends .entry)) (now (nbr .entry)) (now (kind .entry))))
+    requires { ⌜ (count < 65535) × (length (now f) ≡ 2 * (count + 4)) × (named (length (now f)) (jobIn count (now ends) (now nbr) (now kind)) ≡ true) ⌝ }
+    ensures { λ r. ⌜ Climbs r (rules (axisOf way) (jobIn count (now (ends .entry)) (now (nbr .entry)) (now (kind .entry))))
         (now (f .entry)) (now (f .exit)) top ⌝ }
 {
     let mut done = Step::Kept;
     let mut left: u16 = if from < to { top } else { 0 };
     while 0 < left {
-        let did = climb(f, way, ends, nbr, kind, count, owner, visits, from, to, top);
+        let did = climb(f, way, ends, nbr, kind, count, visits, from, to, top);
         done = crate::steps::both_of(done, did);
         left = rounds_after(done, left);
     }
@@ -202,30 +203,17 @@ fn climb_both<'a>(
     nbr: &'a [u16],
     kind: &'a [u8],
     count: usize,
-    owner: &'a [u16],
     visits: &'a [u16],
     again: usize,
     many: usize,
     top: u16,
 ) -> Step
-    requires { ⌜ (count < 256) × (length (now f) ≡ 2 * (count + 4)) × (named (length (now f)) (starsIn count 0 (now ends) (now nbr) (now kind)) ≡ true) ⌝ }
-    ensures { λ r. ⌜ Climbs r (rules (axisOf way) (starsIn count 0 (now (ends .entry)) (now (nbr .entry)) (now (kind .entry))))
+    requires { ⌜ (count < 65535) × (length (now f) ≡ 2 * (count + 4)) × (named (length (now f)) (jobIn count (now ends) (now nbr) (now kind)) ≡ true) ⌝ }
+    ensures { λ r. ⌜ Climbs r (rules (axisOf way) (jobIn count (now (ends .entry)) (now (nbr .entry)) (now (kind .entry))))
         (now (f .entry)) (now (f .exit)) top ⌝ }
 {
-    let once = climb(f, way, ends, nbr, kind, count, owner, visits, 0, many, top);
-    let round = go_round(
-        f,
-        way,
-        ends,
-        nbr,
-        kind,
-        count,
-        owner,
-        visits,
-        again,
-        many,
-        top,
-    );
+    let once = climb(f, way, ends, nbr, kind, count, visits, 0, many, top);
+    let round = go_round(f, way, ends, nbr, kind, count, visits, again, many, top);
     crate::steps::both_of(once, round)
 }
 
@@ -236,7 +224,7 @@ fn order_for<'a>(
     nbr: &'a [u16],
     kind: &'a [u8],
     count: usize,
-    owner: &mut [u16],
+    sheet: &mut [u16],
     visits: &mut [u16],
 ) -> orders::Span
     ensures { λ r. ⌜ (r .again ≤ r .many) × (r .many ≤ length (now (visits .entry))) ⌝ }
@@ -244,7 +232,7 @@ fn order_for<'a>(
     let far = crate::rules::far_of(way);
     let near = crate::rules::near_of(way);
     let cross = crate::rules::cross_of(way);
-    orders::order_of(far, near, cross, ends, nbr, kind, count, owner, visits)
+    orders::order_of(far, near, cross, ends, nbr, kind, count, sheet, visits)
 }
 
 // The visits of a good order.
@@ -257,28 +245,16 @@ fn climb_all<'a>(
     count: usize,
     top: u16,
 ) -> Step
-    requires { ⌜ (count < 256) × (length (now f) ≡ 2 * (count + 4)) × (named (length (now f)) (starsIn count 0 (now ends) (now nbr) (now kind)) ≡ true) ⌝ }
-    ensures { λ r. ⌜ Climbs r (rules (axisOf way) (starsIn count 0 (now (ends .entry)) (now (nbr .entry)) (now (kind .entry))))
+    requires { ⌜ (count < 65535) × (length (now f) ≡ 2 * (count + 4)) × (named (length (now f)) (jobIn count (now ends) (now nbr) (now kind)) ≡ true) ⌝ }
+    ensures { λ r. ⌜ Climbs r (rules (axisOf way) (jobIn count (now (ends .entry)) (now (nbr .entry)) (now (kind .entry))))
         (now (f .entry)) (now (f .exit)) top ⌝ }
 {
-    let mut owner = [0u16; 360];
-    let mut visits = [0u16; 1440];
-    let span = order_for(way, ends, nbr, kind, count, &mut owner, &mut visits);
+    let mut sheet = [0u16; 1024];
+    let mut visits = [0u16; 256];
+    let span = order_for(way, ends, nbr, kind, count, &mut sheet, &mut visits);
     let many = span.many;
     let again = span.again;
-    climb_both(
-        f,
-        way,
-        ends,
-        nbr,
-        kind,
-        count,
-        &owner,
-        &visits,
-        again,
-        many,
-        top,
-    )
+    climb_both(f, way, ends, nbr, kind, count, &visits, again, many, top)
 }
 
 // The numbers of the text, left in f; or false where the walls run in a circle, and noughts.
@@ -290,8 +266,8 @@ pub fn number<'a>(
     kind: &'a [u8],
     count: usize,
 ) -> bool
-    requires { ⌜ (count < 256) × (length (now f) ≡ 2 * (count + 4)) × (named (length (now f)) (starsIn count 0 (now ends) (now nbr) (now kind)) ≡ true) ⌝ }
-    ensures { λ r. ⌜ Answers r (rules (axisOf way) (starsIn count 0 (now (ends .entry)) (now (nbr .entry)) (now (kind .entry))))
+    requires { ⌜ (count < 65535) × (length (now f) ≡ 2 * (count + 4)) × (named (length (now f)) (jobIn count (now ends) (now nbr) (now kind)) ≡ true) ⌝ }
+    ensures { λ r. ⌜ Answers r (rules (axisOf way) (jobIn count (now (ends .entry)) (now (nbr .entry)) (now (kind .entry))))
         (now (f .exit)) (length (now (f .entry))) ⌝ }
 {
     let top = (count + 1) as u16;

@@ -5,7 +5,7 @@ ghost use mathlib.Core.List.{[], _∷_};
 ghost use Prim.Native.Nat.{_+_, _-_, _*_, _<_};
 ghost use lib.ListN.{length};
 ghost use Rattle.floor.specs.Walls.{before, low, high, entryRules, starRules, rules};
-ghost use Rattle.stars.specs.Held.{cells, heldStar, starsIn};
+ghost use Rattle.stars.specs.Held.{cells, heldStar, jobIn};
 ghost use Rattle.stars.specs.Pairs.{pair};
 ghost use Rattle.walls.specs.Steps.{Ran};
 ghost use Rattle.walls.specs.Jobs.{axisOf, named, starNamed};
@@ -44,7 +44,7 @@ pub fn cross_of(way: Direction) -> u8
 
 // The two rules of a contact across.
 fn crossed(f: &mut [u16], u: usize, v: usize, top: u16) -> Step
-    requires { ⌜ (u < 1024) × (v < 1024) × (high u < length (now f)) × (high v < length (now f)) ⌝ }
+    requires { ⌜ (u < 65540) × (v < 65540) × (high u < length (now f)) × (high v < length (now f)) ⌝ }
     ensures { λ r. ⌜ Ran r (before (low u) (high v) 0 ∷ before (low v) (high u) 0 ∷ []) (now (f .entry)) (now (f .exit)) top ⌝ }
 {
     let one = crate::steps::apply(f, 2 * u, 2 * v + 1, 1, top);
@@ -54,7 +54,7 @@ fn crossed(f: &mut [u16], u: usize, v: usize, top: u16) -> Step
 
 // The rules of one entry of room u.
 pub fn entry(f: &mut [u16], way: Direction, u: usize, v: usize, kind: u8, top: u16) -> Step
-    requires { ⌜ (u < 1024) × (v < 1024) × (high u < length (now f)) × (high v < length (now f)) ⌝ }
+    requires { ⌜ (u < 65540) × (v < 65540) × (high u < length (now f)) × (high v < length (now f)) ⌝ }
     ensures { λ r. ⌜ Ran r (entryRules (axisOf way) u (pair v kind)) (now (f .entry)) (now (f .exit)) top ⌝ }
 {
     if kind == far_of(way) {
@@ -82,7 +82,7 @@ fn star<'a>(
     end: usize,
     top: u16,
 ) -> Step
-    requires { ⌜ (u < 1024) × (high u < length (now f)) × (starNamed (length (now f)) (cells (end - from) from (now nbr) (now kind)) ≡ true) ⌝ }
+    requires { ⌜ (u < 65540) × (high u < length (now f)) × (starNamed (length (now f)) (cells (end - from) from (now nbr) (now kind)) ≡ true) ⌝ }
     ensures { λ r. ⌜ Ran r (starRules (axisOf way) u (cells (end - from) from (now (nbr .entry)) (now (kind .entry))))
         (now (f .entry)) (now (f .exit)) top ⌝ }
 {
@@ -107,7 +107,7 @@ fn room<'a>(
     i: usize,
     top: u16,
 ) -> Step
-    requires { ⌜ (i < 256) × (high (4 + i) < length (now f)) × (starNamed (length (now f)) (heldStar (now ends) (now nbr) (now kind) i) ≡ true) ⌝ }
+    requires { ⌜ (i < 65535) × (high (4 + i) < length (now f)) × (starNamed (length (now f)) (heldStar (now ends) (now nbr) (now kind) i) ≡ true) ⌝ }
     ensures { λ r. ⌜ Ran r (before (low (4 + i)) (high (4 + i)) 0 ∷ starRules (axisOf way) (4 + i) (heldStar (now (ends .entry)) (now (nbr .entry)) (now (kind .entry)) i))
         (now (f .entry)) (now (f .exit)) top ⌝ }
 {
@@ -129,8 +129,8 @@ pub fn pass<'a>(
     count: usize,
     top: u16,
 ) -> Step
-    requires { ⌜ (count < 256) × (length (now f) ≡ 2 * (count + 4)) × (named (length (now f)) (starsIn count 0 (now ends) (now nbr) (now kind)) ≡ true) ⌝ }
-    ensures { λ r. ⌜ Ran r (rules (axisOf way) (starsIn count 0 (now (ends .entry)) (now (nbr .entry)) (now (kind .entry))))
+    requires { ⌜ (count < 65535) × (length (now f) ≡ 2 * (count + 4)) × (named (length (now f)) (jobIn count (now ends) (now nbr) (now kind)) ≡ true) ⌝ }
+    ensures { λ r. ⌜ Ran r (rules (axisOf way) (jobIn count (now (ends .entry)) (now (nbr .entry)) (now (kind .entry))))
         (now (f .entry)) (now (f .exit)) top ⌝ }
 {
     let mut done = Step::Kept;

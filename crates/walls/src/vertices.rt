@@ -2,7 +2,7 @@
 ghost use mathlib.Core.Path.{_≡_};
 ghost use Prim.Native.Nat.{_-_, _<_};
 ghost use lib.ListN.{length};
-ghost use Rattle.stars.specs.Held.{cells, heldStar, starsIn};
+ghost use Rattle.stars.specs.Held.{cells, heldStar, jobIn};
 ghost use Rattle.walls.specs.Jobs.{starNamed, named};
 
 // Whether the sides of every neighbour, from a place to an end, are among so many.
@@ -36,7 +36,7 @@ pub fn all_named<'a>(
     count: usize,
     sides: usize,
 ) -> bool
-    ensures { λ r. ⌜ r ≡ named sides (starsIn count 0 (now (ends .entry)) (now (nbr .entry)) (now (kind .entry))) ⌝ }
+    ensures { λ r. ⌜ r ≡ named sides (jobIn count (now (ends .entry)) (now (nbr .entry)) (now (kind .entry))) ⌝ }
 {
     let mut i: usize = 0;
     while i < count {

@@ -1,84 +1,145 @@
-//! Times loads and turns of sixty rooms: the built program `bench` beside the reference, on the same jobs.
+//! Times the calls on sixty rooms: the built program `bench` beside the reference, on the same jobs.
 
 use floors::known::known_floors;
 use floors::{renumbered, Chance};
-use reference::{Board, FIRST_ROOM};
+use reference::{Board, Refusal, FIRST_ROOM};
 use std::hint::black_box;
 use std::io::{Read, Write};
 use std::process::{Command, Stdio};
 use std::time::Instant;
 
 const RUNNER: &str = "../bin/run";
-/// The rounds as a power of ten, and their number.
-const POWER: u8 = b'4';
-const ROUNDS: u32 = 10_000;
 const REPEATS: usize = 11;
+const VERTICES: u32 = 64;
+
+/// What is timed, and the rounds of it as a power of ten.
+#[derive(Clone, Copy, PartialEq)]
+enum What {
+    Load,
+    Turn,
+    RefusedTurn,
+    Question,
+}
+
+const ALL: [What; 4] = [What::Load, What::Turn, What::RefusedTurn, What::Question];
+
+impl What {
+    fn name(self) -> &'static str {
+        match self {
+            What::Load => "load",
+            What::Turn => "turn",
+            What::RefusedTurn => "refused turn",
+            What::Question => "question",
+        }
+    }
+
+    fn letter(self) -> u8 {
+        match self {
+            What::Load => b'l',
+            What::Turn | What::RefusedTurn => b't',
+            What::Question => b'q',
+        }
+    }
+
+    fn power(self) -> u8 {
+        match self {
+            What::Load | What::Turn => 4,
+            What::RefusedTurn => 6,
+            What::Question => 7,
+        }
+    }
+
+    fn rounds(self) -> u32 {
+        10u32.pow(u32::from(self.power()))
+    }
+}
 
 /// One thing to time: its name, what is done, the contact to turn, and the job.
 struct Case {
     name: String,
-    what: u8,
+    what: What,
     contact: (usize, usize),
     job: Vec<u8>,
 }
 
-fn main() {
-    println!("{REPEATS} repeats of {ROUNDS} rounds: the least microseconds a round of both, and their ratio;");
-    println!("beside it the least, the middle and the greatest ratio of one repeat");
-    println!("{}", machine());
-    println!(
-        "{:<28} {:>8} {:>10} {:>7} {:>18}",
-        "", "ours", "reference", "ratio", "ratios of repeats"
-    );
-    let mut ratios = Vec::new();
-    for case in cases() {
-        ratios.push(timed(&case));
-    }
-    println!(
-        "median of the ratios {:.2}, greatest {:.2}",
-        median(ratios.clone()),
-        ratios.iter().copied().fold(0.0, f64::max)
-    );
+/// The least microseconds a round of both.
+#[derive(Clone, Copy)]
+struct Times {
+    ours: f64,
+    reference: f64,
 }
 
-/// Each floor loaded, with its rooms as they come and shuffled; each that is accepted also turned.
-fn cases() -> Vec<Case> {
+fn main() {
+    println!("{REPEATS} repeats of 10,000 loads or turns, a million refused turns, ten million questions: the least microseconds a round of both, and their ratio;");
+    println!("beside it the least, the middle and the greatest ratio of one repeat, and both as parts of a load of the same floor");
+    println!("{}", machine());
+    println!(
+        "{:<30} {:>8} {:>10} {:>7} {:>20} {:>17}",
+        "", "ours", "reference", "ratio", "ratios of repeats", "parts of a load"
+    );
+    let mut ratios = Vec::new();
+    for floor in floors() {
+        let mut load = None;
+        for case in floor {
+            let times = timed(&case, &mut load);
+            ratios.push((case.what, times.ours / times.reference));
+        }
+    }
+    for what in ALL {
+        let of: Vec<f64> = ratios.iter().filter(|r| r.0 == what).map(|r| r.1).collect();
+        println!(
+            "{}: median of the ratios {:.2}, greatest {:.2}",
+            what.name(),
+            median(of.clone()),
+            of.iter().copied().fold(0.0, f64::max)
+        );
+    }
+}
+
+/// Each floor loaded, with its rooms as they come and shuffled; each that is accepted also turned and asked of.
+fn floors() -> Vec<Vec<Case>> {
     let mut all = Vec::new();
     for (name, floor) in known_floors() {
         let shuffled = renumbered(&mut Chance::new(1), &floor);
         for (order, job) in [("", &floor), (" shuffled", &shuffled)] {
             let bytes = job.bytes();
-            all.push(Case {
-                name: format!("load {name}{order}"),
-                what: b'l',
-                contact: (0, 0),
+            let case = |what: What, contact| Case {
+                name: format!("{} {name}{order}", what.name()),
+                what,
+                contact,
                 job: bytes.clone(),
-            });
-            if let Some(contact) = some_turn(&bytes) {
-                all.push(Case {
-                    name: format!("turn {name}{order}"),
-                    what: b't',
-                    contact,
-                    job: bytes,
-                });
+            };
+            let mut cases = vec![case(What::Load, (0, 0))];
+            if let Some(contact) = some_turn(&bytes, |answer| answer.is_ok()) {
+                cases.push(case(What::Turn, contact));
             }
+            if let Some(contact) = some_turn(&bytes, |answer| answer == Err(Refusal(12))) {
+                cases.push(case(What::RefusedTurn, contact));
+            }
+            if let Some(room) = some_turn(&bytes, |_| true) {
+                cases.push(case(What::Question, room));
+            }
+            all.push(cases);
         }
     }
     all
 }
 
-/// The first contact that can be turned.
-fn some_turn(job: &[u8]) -> Option<(usize, usize)> {
+/// The first contact whose turn is so answered.
+fn some_turn(
+    job: &[u8],
+    answered: impl Fn(Result<reference::board::Sheet, Refusal>) -> bool,
+) -> Option<(usize, usize)> {
     let mut board = Board::empty();
     board.load(job).ok()?;
     let last = board.job()?.vertices();
     (FIRST_ROOM..last)
         .flat_map(|u| (FIRST_ROOM..last).map(move |v| (u, v)))
-        .find(|&(u, v)| board.clone().turn(u, v).is_ok())
+        .find(|&(u, v)| answered(board.clone().turn(u, v)))
 }
 
 /// Both are run in turn, so that what slows the machine for a while slows both.
-fn timed(case: &Case) -> f64 {
+fn timed(case: &Case, load: &mut Option<Times>) -> Times {
     let (mut ours, mut theirs, mut ratios) = (Vec::new(), Vec::new(), Vec::new());
     for _ in 0..REPEATS {
         let (one, answer) = ours_once(case);
@@ -94,30 +155,38 @@ fn timed(case: &Case) -> f64 {
         ratios.push(one / other);
     }
     ratios.sort_by(f64::total_cmp);
-    let ratio = least(&ours) / least(&theirs);
+    let times = Times {
+        ours: least(&ours),
+        reference: least(&theirs),
+    };
+    let load = load.get_or_insert(times);
     println!(
-        "{:<28} {:>8.1} {:>10.1} {:>7.2} {:>8.2} {:.2} {:.2}",
+        "{:<30} {:>8.3} {:>10.3} {:>7.2} {:>10.2} {:.2} {:.2} {:>10.4} {:.4}",
         case.name,
-        least(&ours),
-        least(&theirs),
-        ratio,
+        times.ours,
+        times.reference,
+        times.ours / times.reference,
         ratios[0],
         ratios[REPEATS / 2],
-        ratios[REPEATS - 1]
+        ratios[REPEATS - 1],
+        times.ours / load.ours,
+        times.reference / load.reference
     );
-    ratio
+    times
 }
 
 /// Microseconds a round, without what starting the program costs.
 fn ours_once(case: &Case) -> (f64, String) {
-    let (start, _) = run(case, b'0');
-    let (all, answer) = run(case, POWER);
-    ((all - start) / f64::from(ROUNDS - 1) * 1e6, answer)
+    let (start, _) = run(case, 0);
+    let (all, answer) = run(case, case.what.power());
+    let more = case.what.rounds() - 1;
+    ((all - start) / f64::from(more) * 1e6, answer)
 }
 
 /// Seconds, and what the program printed.
 fn run(case: &Case, power: u8) -> (f64, String) {
-    let mut input = vec![case.what, power, case.contact.0 as u8, case.contact.1 as u8];
+    let (u, v) = case.contact;
+    let mut input = vec![case.what.letter(), b'0' + power, u as u8, v as u8];
     input.extend(&case.job);
     let begun = Instant::now();
     let mut child = Command::new(RUNNER)
@@ -138,26 +207,37 @@ fn run(case: &Case, power: u8) -> (f64, String) {
     (begun.elapsed().as_secs_f64(), text)
 }
 
-/// Microseconds a round, and the sum that the program prints: 1 for what is done, a thousand times the number of a refusal.
+/// Microseconds a round, and the sum that the program prints.
 fn reference_once(case: &Case) -> (f64, u64) {
     let mut board = Board::empty();
-    if case.what == b't' {
+    if case.what != What::Load {
         board.load(&case.job).expect("a job to turn is accepted");
     }
+    let rounds = case.what.rounds();
+    let (u, v) = case.contact;
     let mut sum = 0;
     let begun = Instant::now();
-    for _ in 0..ROUNDS {
-        let answer = match case.what {
-            b'l' => board.load(black_box(&case.job)),
-            _ => board.turn(case.contact.0, case.contact.1),
-        };
-        sum += match black_box(answer) {
-            Ok(_) => 1,
-            Err(refusal) => 1000 * u64::from(refusal.0),
+    for left in (1..=rounds).rev() {
+        sum += match case.what {
+            What::Load => mark(board.load(black_box(&case.job)), |_| 1),
+            What::Turn | What::RefusedTurn => mark(board.turn(u, v), |_| 1),
+            What::Question => {
+                let at = (left % VERTICES) as usize;
+                mark(board.rectangle(at), |rect| rect.x2 as u64)
+                    + mark(board.share(u, at), u64::from)
+            }
         };
     }
-    let micros = begun.elapsed().as_secs_f64() * 1e6 / f64::from(ROUNDS);
+    let micros = begun.elapsed().as_secs_f64() * 1e6 / f64::from(rounds);
     (micros, sum)
+}
+
+/// A thousand times the number of a refusal, and what counts of another answer.
+fn mark<T>(answer: Result<T, Refusal>, worth: impl Fn(T) -> u64) -> u64 {
+    match black_box(answer) {
+        Ok(value) => worth(value),
+        Err(refusal) => 1000 * u64::from(refusal.0),
+    }
 }
 
 /// What else the machine does only makes a time longer, so that the least of some says most.

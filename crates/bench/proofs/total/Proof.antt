@@ -12,6 +12,9 @@ abbrev μ-loop : tie.MeasureT-loop
 loop-holds : tie.Need-loop-holds Inv-loop μ-loop
 loop-holds c = search needs
 
+wide-requires : tie.Need-wide-requires Inv-loop μ-loop
+wide-requires c κs = search needs
+
 walls-of-requires : tie.Need-walls-of-requires Inv-loop μ-loop
 walls-of-requires c κs = search needs
 
@@ -46,6 +49,7 @@ total-spec =
     Inv-loop
     μ-loop
     loop-holds
+    wide-requires
     walls-of-requires
     weight-requires
     wrapping-add-u64-requires

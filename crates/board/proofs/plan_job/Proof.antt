@@ -9,8 +9,8 @@ read-job-requires c κs = search needs
 enum-told : tie.Need-enum-told
 enum-told c = search needs
 
-draw-requires : tie.Need-draw-requires
-draw-requires c κs = search needs
+draw-stars-requires : tie.Need-draw-stars-requires
+draw-stars-requires c κs = search needs
 
 enum-told-2 : tie.Need-enum-told-2
 enum-told-2 c = search needs
@@ -42,7 +42,7 @@ plan-job-spec =
     (tie.spec
     read-job-requires
     enum-told
-    draw-requires
+    draw-stars-requires
     enum-told-2
     enum-known-drawn
     refused-requires

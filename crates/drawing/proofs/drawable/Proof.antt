@@ -3,15 +3,6 @@ use borrow.Author.Needs.{needs}
 use Rattle.drawing.proofs.drawable.Statement.{statement}
 use Rattle.drawing.proofs.drawable.Tie as tie
 
-wide-requires : tie.Need-wide-requires
-wide-requires c κs = search needs
-
-wide-requires-2 : tie.Need-wide-requires-2
-wide-requires-2 c κs = search needs
-
-add-many : tie.Need-add-many
-add-many c = search needs
-
 all-inside-requires : tie.Need-all-inside-requires
 all-inside-requires c κs = search needs
 
@@ -24,8 +15,8 @@ areas-fill-requires c κs = search needs
 returns-2 : tie.Need-returns-2
 returns-2 c = search (drawable-gap, needs)
 
-pairs-ok-requires : tie.Need-pairs-ok-requires
-pairs-ok-requires c κs = search needs
+all-pairs-requires : tie.Need-all-pairs-requires
+all-pairs-requires c κs = search needs
 
 returns-3 : tie.Need-returns-3
 returns-3 c = search (drawable-pair, needs)
@@ -40,14 +31,11 @@ pub drawable-spec : {M : Type 1} → statement M
 drawable-spec =
     tie.close
     (tie.spec
-    wide-requires
-    wide-requires-2
-    add-many
     all-inside-requires
     returns
     areas-fill-requires
     returns-2
-    pairs-ok-requires
+    all-pairs-requires
     returns-3
     all-ordered-requires
     returns-4)

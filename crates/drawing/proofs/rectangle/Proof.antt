@@ -1,4 +1,4 @@
-use Rattle.drawing.proofs.Asking.{rect-of-plan}
+use Rattle.drawing.proofs.Asking.{rect-known}
 use borrow.Author.Needs.{needs}
 use Rattle.drawing.proofs.rectangle.Statement.{statement}
 use Rattle.drawing.proofs.rectangle.Tie as tie
@@ -13,7 +13,7 @@ rect-of-requires : tie.Need-rect-of-requires
 rect-of-requires c κs = search needs
 
 returns : tie.Need-returns
-returns c = search (rect-of-plan, needs)
+returns c = search (rect-known, needs)
 
 pub rectangle-spec : {M : Type 1} → statement M
 rectangle-spec = tie.close (tie.spec wide-requires add-rect-of rect-of-requires returns)

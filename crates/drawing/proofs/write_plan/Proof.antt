@@ -19,7 +19,7 @@ add-length : tie.Need-add-length
 add-length c = search needs
 
 returns : tie.Need-returns
-returns c = plan-short (c .before .before .before .args .t1) _ _ (c .before .wide .ensures .0) (c .if1 .taken)
+returns c = plan-short _ _ _ _ _ _ (c .before .wide .ensures .0) (c .if1 .taken)
 
 put-head-requires : tie.Need-put-head-requires
 put-head-requires c κs = search needs
@@ -37,13 +37,17 @@ slice-write-out-2 : tie.Need-slice-write-out-2
 slice-write-out-2 c = simp length-set (omega (arith, c .before .before .before .before .put-head .kept .0))
 
 put-rects-requires : tie.Need-put-rects-requires
-put-rects-requires c κs = (search needs, simp length-set (omega (arith, c .before .before .before .before .before .before .before .before .put-head .kept .0)))
+put-rects-requires c κs = (search needs, simp length-set (omega (arith, c .before .before .before .before .before .put-head .kept .0)))
 
 same-length : tie.Need-same-length
-same-length c = (simp length-set at (c .before .before .put-rects .kept .0)) ∙ c .before .before .before .before .before .before .before .before .before .before .before .put-head .kept .0
+same-length c = (simp length-set at (c .before .before .put-rects .kept .0)) ∙ c .before .before .before .before .before .before .before .before .put-head .kept .0
 
 returns-2 : tie.Need-returns-2
-returns-2 c = plan-done (c .before .before .before .before .before .before .before .before .before .before .before .before .before .before .before .before .args .t1) _ _ (c .before .before .before .before .before .before .before .before .before .before .before .before .before .before .wide .ensures .0) _ _ _ _ (c .before .before .before .before .before .before .before .before .before .before .before .put-head .ensures) (c .before .before .before .before .before .before .before .before .low-byte .ensures) (c .before .before .before .before .before .before .before .low-byte2 .ensures) (c .before .before .put-rects .ensures) (c .before .before .before .before .before .before .before .before .before .before .before .before .before .if1 .left)
+returns-2 c =
+    let put = c .before .before in
+    let head = put .before .before .before .before .before .before in
+    plan-done _ _ _ _ _ _ (head .before .before .before .wide .ensures .0) _ _ _ _ (head .put-head .ensures) (put .before .before .before .low-byte .ensures) (put .before .before .low-byte2 .ensures)
+    (put .put-rects .ensures) (head .before .before .if1 .left)
 
 pub write-plan-spec : {M : Type 1} → statement M
 write-plan-spec =

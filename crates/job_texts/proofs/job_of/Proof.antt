@@ -25,7 +25,7 @@ put-wrong-requires : tie.Need-put-wrong-requires
 put-wrong-requires c κs = search needs
 
 returns-2 : tie.Need-returns-2
-returns-2 c = rw (right-job (c .before .before .before .before .before .before .before .before .args .text .now) _ (c .before .before .before .before .before .read-text .ensures) (search needs) (search needs)) (c .put-bytes .ensures)
+returns-2 c = rw (right-job (c .before .before .before .before .before .before .before .before .before .before .before .before .before .before .args .text .now) _ (c .before .before .before .before .before .before .before .before .before .before .before .read-text .ensures) (search needs) (search needs)) (c .put-bytes .ensures)
 
 returns-3 : tie.Need-returns-3
 returns-3 c = page-put _ _ (c .put-wrong .ensures) (wrong-job (c .before .before .before .before .before .before .before .before .before .args .text .now) _ (c .before .before .before .before .before .before .read-text .ensures) (search needs) _ (search needs)) (search (wrong-short, needs)) (search needs)

@@ -25,10 +25,10 @@ list-refusal-requires : tie.Need-list-refusal-requires
 list-refusal-requires c κs = search needs
 
 returns-2 : tie.Need-returns-2
-returns-2 c = rw (plan-text _ (search needs) _ (c .before .before .before .before .before .plan-job .ensures) (search needs)) (c .list-plan .ensures)
+returns-2 c = rw (plan-text _ (search needs) _ (c .before .before .before .before .before .before .before .before .before .plan-job .ensures) (search needs)) (c .list-plan .ensures)
 
 returns-3 : tie.Need-returns-3
-returns-3 c = refusal-text _ (search needs) _ (c .before .before .before .before .before .before .plan-job .ensures) _ _ _ _ (c .list-refusal .ensures) (search needs)
+returns-3 c = refusal-text _ (search needs) _ (c .before .before .before .before .before .before .before .plan-job .ensures) _ _ _ _ (c .list-refusal .ensures) (search needs)
 
 pub list-spec : {M : Type 1} → statement M
 list-spec =

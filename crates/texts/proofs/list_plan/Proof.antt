@@ -19,7 +19,7 @@ put-rects-requires : tie.Need-put-rects-requires
 put-rects-requires c κs = search needs
 
 returns : tie.Need-returns
-returns c = plan-put _ _ _ (c .before .before .before .before .number .ensures .0) (c .before .before .before .number2 .ensures .0) _ _ _ _ _ _ _ (c .before .before .before .before .before .before .put-sheet .ensures) (c .before .before .put-two .ensures) (c .put-rects .ensures .0) (search needs) (c .before .before .before .before .number .ensures .1) (c .before .before .before .number2 .ensures .1) (c .put-rects .ensures .1)
+returns c = plan-put _ _ _ _ _ _ (c .before .before .before .before .number .ensures .0) (c .before .before .before .number2 .ensures .0) _ _ _ _ _ _ _ (c .before .before .before .before .before .before .put-sheet .ensures) (c .before .before .put-two .ensures) (c .put-rects .ensures .0) (search needs) (c .before .before .before .before .number .ensures .1) (c .before .before .before .number2 .ensures .1) (c .put-rects .ensures .1)
 
 pub list-plan-spec : {M : Type 1} → statement M
 list-plan-spec =

@@ -1,4 +1,8 @@
-use Rattle.tirunoiwa.proofs.Calling.{plan-fits, plan-refused, plan-told}
+use Rattle.floor.specs.Calls.{empty, loads, writesPlan, lent}
+use Rattle.floor.specs.Tracker.{planOfJob}
+use Rattle.tirunoiwa.proofs.Numbers.{step-numbered}
+use Rattle.tirunoiwa.proofs.Calling.{then-refused, fits, then-told}
+use native.Mathlib.Omega.{arith}
 use borrow.Author.Needs.{needs}
 use Rattle.tirunoiwa.proofs.tirunoiwa_plan.Statement.{statement}
 use Rattle.tirunoiwa.proofs.tirunoiwa_plan.Tie as tie
@@ -7,20 +11,28 @@ load-requires : tie.Need-load-requires
 load-requires c κs = search needs
 
 returns : tie.Need-returns
-returns c = plan-refused _ _ _ (c .before .before .load .ensures) _ (c .if1 .taken)
+unfolding planOfJob lent
+returns c = then-refused _ (writesPlan _) (c .before .before .load .ensures .answer) (c .if1 .taken)
 
 write-plan-requires : tie.Need-write-plan-requires
 write-plan-requires c κs = search needs
 
 code-of-requires : tie.Need-code-of-requires
-code-of-requires c κs = search (plan-fits, needs)
+unfolding lent
+code-of-requires c κs =
+    let loaded = c .before .before .before .before .before .before .before .load .ensures in
+    fits (loaded .reached) (writesPlan _) (c .before .before .write-plan .ensures) (omega arith)
 
 same-length : tie.Need-same-length
 same-length c = search needs
 
 returns-2 : tie.Need-returns-2
-returns-2 c = let asked = c .before .before .before .before .before .before in
-    plan-told _ _ _ (asked .before .before .load .ensures) _ _ _ _ (asked .if1 .left) (c .before .before .before .write-plan .ensures) (c .code-of .ensures)
+unfolding planOfJob
+returns-2 c =
+    let asked = c .before .before .before .before .before .before in
+    let written = c .before .before .before .write-plan .ensures in
+    let (l, y) = then-told (asked .before .before .load .ensures) (step-numbered empty (loads _)) (asked .if1 .left) (writesPlan _) written (c .code-of .ensures) in
+    (l .answer, y)
 
 pub tirunoiwa-plan-spec : {M : Type 1} → statement M
 tirunoiwa-plan-spec =

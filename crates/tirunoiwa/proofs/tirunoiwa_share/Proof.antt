@@ -1,4 +1,8 @@
-use Rattle.tirunoiwa.proofs.Calling.{share-fits, share-refused, share-told}
+use Rattle.floor.specs.Calls.{empty, loads, shares, lent}
+use Rattle.floor.specs.Tracker.{shareOfJob}
+use Rattle.tirunoiwa.proofs.Numbers.{step-numbered}
+use Rattle.tirunoiwa.proofs.Calling.{then-refused, fits, then-told}
+use native.Mathlib.Omega.{arith}
 use borrow.Author.Needs.{needs}
 use Rattle.tirunoiwa.proofs.tirunoiwa_share.Statement.{statement}
 use Rattle.tirunoiwa.proofs.tirunoiwa_share.Tie as tie
@@ -7,17 +11,22 @@ load-requires : tie.Need-load-requires
 load-requires c κs = search needs
 
 returns : tie.Need-returns
-returns c = share-refused _ _ _ (c .before .before .load .ensures) _ _ (c .if1 .taken)
+unfolding shareOfJob
+returns c = then-refused _ (shares _ _) (c .before .before .load .ensures .answer) (c .if1 .taken) .0
 
 shares-requires : tie.Need-shares-requires
 shares-requires c κs = search needs
 
 code-of-requires : tie.Need-code-of-requires
-code-of-requires c κs = search (share-fits, needs)
+unfolding lent
+code-of-requires c κs = fits (c .before .before .before .before .load .ensures .reached) (shares _ _) (c .shares .ensures) (omega arith)
 
 returns-2 : tie.Need-returns-2
-returns-2 c = let asked = c .before .before .before in
-    share-told _ _ _ (asked .before .before .load .ensures) _ _ _ _ _ (asked .if1 .left) (c .before .shares .ensures) (c .code-of .ensures)
+unfolding shareOfJob
+returns-2 c =
+    let asked = c .before .before .before in
+    let said = c .before .shares .ensures in
+    then-told (asked .before .before .load .ensures) (step-numbered empty (loads _)) (asked .if1 .left) (shares _ _) said (c .code-of .ensures) .0 .answer
 
 pub tirunoiwa-share-spec : {M : Type 1} → statement M
 tirunoiwa-share-spec =

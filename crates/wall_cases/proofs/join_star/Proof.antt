@@ -4,10 +4,10 @@ use Rattle.wall_cases.proofs.join_star.Statement.{statement}
 use Rattle.wall_cases.proofs.join_star.Tie as tie
 
 abbrev Inv-loop : tie.InvT-loop
-Inv-loop marks₀ i stars from end k₀ marks k = Unit
+Inv-loop marks₀ ends nbr kind i from end k₀ marks k = Unit
 
 abbrev μ-loop : tie.MeasureT-loop
-μ-loop marks₀ i stars from end k₀ marks k = end - k
+μ-loop marks₀ ends nbr kind i from end k₀ marks k = end - k
 
 start-of-requires : tie.Need-start-of-requires Inv-loop μ-loop
 start-of-requires c κs = search needs

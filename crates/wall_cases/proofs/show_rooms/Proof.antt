@@ -4,10 +4,10 @@ use Rattle.wall_cases.proofs.show_rooms.Statement.{statement}
 use Rattle.wall_cases.proofs.show_rooms.Tie as tie
 
 abbrev Inv-loop : tie.InvT-loop
-Inv-loop walls count i₀ i = Unit
+Inv-loop xs ys count i₀ i = Unit
 
 abbrev μ-loop : tie.MeasureT-loop
-μ-loop walls count i₀ i = count - i
+μ-loop xs ys count i₀ i = count - i
 
 loop-holds : tie.Need-loop-holds Inv-loop μ-loop
 loop-holds c = search needs

@@ -3,9 +3,6 @@ use borrow.Author.Needs.{needs}
 use Rattle.walls.proofs.can_number.Statement.{statement}
 use Rattle.walls.proofs.can_number.Tie as tie
 
-wide-requires : tie.Need-wide-requires
-wide-requires c κs = search needs
-
 returns : tie.Need-returns
 returns c = search (no-room, needs)
 
@@ -28,7 +25,6 @@ pub can-number-spec : {M : Type 1} → statement M
 can-number-spec =
     tie.close
     (tie.spec
-    wide-requires
     returns
     returns-2
     add-all-named

@@ -1,4 +1,4 @@
-use Rattle.walls.proofs.Numbering.{held-none, rooms-hold, all-vertices, held-numbers}
+use Rattle.walls.proofs.Numbering.{held-none, rooms-few, rooms-hold, all-vertices, held-numbers}
 use borrow.Author.Needs.{needs}
 use Rattle.walls.proofs.numbers_in.Statement.{statement}
 use Rattle.walls.proofs.numbers_in.Tie as tie
@@ -12,20 +12,12 @@ can-number-requires c κs = search needs
 returns : tie.Need-returns
 returns c = search (held-none, needs)
 
-wide-requires : tie.Need-wide-requires
-wide-requires c κs = search needs
-
 slice-aggregate-number-front : tie.Need-slice-aggregate-number-front
 slice-aggregate-number-front c = search needs
 
 number-front-requires : tie.Need-number-front-requires
 number-front-requires c κs =
-    let wide = c .before .before .before .before .before .before .before .before in
-    let can = wide .before .before in (
-      search needs,
-      rooms-hold _ _ (wide .wide .ensures .0) _ (can .can-number .ensures) (wide .before .if1 .left) _ (can .before .noughts .ensures),
-      all-vertices _ _ (wide .wide .ensures .0) _ (can .can-number .ensures) (wide .before .if1 .left),
-    )
+    (search (rooms-few, needs), search (rooms-hold, needs), search (all-vertices, needs))
 
 returns-2 : tie.Need-returns-2
 returns-2 c = search (held-numbers, needs)
@@ -37,7 +29,6 @@ numbers-in-spec =
     noughts-requires
     can-number-requires
     returns
-    wide-requires
     slice-aggregate-number-front
     number-front-requires
     returns-2)

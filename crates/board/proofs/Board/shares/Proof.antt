@@ -1,33 +1,39 @@
-use Rattle.board.proofs.Answering.{ten-shares, thirteen-shares, answer-shares}
+use Rattle.board.proofs.Answering.{stays-tells, ten-shares, thirteen-shares, answer-shares}
 use borrow.Author.Needs.{needs}
 use Rattle.board.proofs.Board.shares.Statement.{statement}
 use Rattle.board.proofs.Board.shares.Tie as tie
 
-as-loaded-requires : tie.Need-as-loaded-requires
-as-loaded-requires c κs = search needs
+stays-requires : tie.Need-stays-requires
+stays-requires c κs = search needs
 
 returns : tie.Need-returns
-returns c = search (ten-shares, needs)
+returns c = search (stays-tells, ten-shares, needs)
 
 two-vertices-requires : tie.Need-two-vertices-requires
 two-vertices-requires c κs = search needs
 
+stays-requires-2 : tie.Need-stays-requires-2
+stays-requires-2 c κs = search needs
+
 returns-2 : tie.Need-returns-2
-returns-2 c = search (thirteen-shares, needs)
+returns-2 c =
+    let asked = c .before .before in
+    stays-tells _ _ _ _ _ (c .stays2 .ensures) (thirteen-shares _ (asked .before .if1 .left) _ _ _ (asked .two-vertices .ensures) (c .before .if2 .taken))
 
 two-share-requires : tie.Need-two-share-requires
 two-share-requires c κs = search needs
 
 returns-3 : tie.Need-returns-3
-returns-3 c = search (answer-shares, needs)
+returns-3 c =
+    let asked = c .before .before .before .before .before in
+    answer-shares _ (asked .before .if1 .left) _ _ _ (asked .two-vertices .ensures) (c .before .before .before .before .if2 .left) _ (c .two-share .ensures)
 
 pub shares-spec : {M : Type 1} → statement M
 shares-spec =
     tie.close
     (tie.spec
-    as-loaded-requires
-    returns
+    stays-requires returns
     two-vertices-requires
-    returns-2
+    stays-requires-2 returns-2
     two-share-requires
     returns-3)

@@ -1,37 +1,53 @@
-use Rattle.board.proofs.Answering.{ten-turn, turn-room, answer-turn, refused-turn}
+use Rattle.board.proofs.Answering.{stays-tells, ten-turn, turn-stops, turn-swings}
 use borrow.Author.Needs.{needs}
 use Rattle.board.proofs.Board.turn.Statement.{statement}
 use Rattle.board.proofs.Board.turn.Tie as tie
 
-as-loaded-requires : tie.Need-as-loaded-requires
-as-loaded-requires c κs = search needs
+stays-requires : tie.Need-stays-requires
+stays-requires c κs = search needs
 
 returns : tie.Need-returns
-returns c = search (ten-turn, needs)
+returns c = search (stays-tells, ten-turn, needs)
 
-plan-turned-requires : tie.Need-plan-turned-requires
-plan-turned-requires c κs = search (turn-room, needs)
+wide-requires : tie.Need-wide-requires
+wide-requires c κs = search needs
+
+turn-held-requires : tie.Need-turn-held-requires
+turn-held-requires c κs = search needs
+
+enum-known-swing : tie.Need-enum-known-swing
+enum-known-swing c = search needs
+
+stays-requires-2 : tie.Need-stays-requires-2
+stays-requires-2 c κs = search needs
 
 enum-told : tie.Need-enum-told
 enum-told c = search needs
 
-enum-known-answer : tie.Need-enum-known-answer
-enum-known-answer c = search needs
+hold-drawn-requires : tie.Need-hold-drawn-requires
+hold-drawn-requires c κs = search needs
 
 returns-2 : tie.Need-returns-2
-returns-2 c = search (answer-turn, needs)
+returns-2 c =
+    let held = c .before .before .before .before in
+    stays-tells _ _ _ _ _ (c .stays2 .ensures)
+    (turn-stops _ (held .before .before .before .before .before .before .before .before .before .before .before .before .if1 .left) _ _ _
+    (held .before .wide .ensures .0) _ _ _ (held .turn-held .ensures) _ (c .before .before .swing .given .1))
 
 returns-3 : tie.Need-returns-3
-returns-3 c = search (refused-turn, needs)
+returns-3 c = search (turn-swings, needs)
 
 pub turn-spec : {M : Type 1} → statement M
 turn-spec =
     tie.close
     (tie.spec
-    as-loaded-requires
+    stays-requires
     returns
-    plan-turned-requires
+    wide-requires
+    turn-held-requires
+    enum-known-swing
+    stays-requires-2
     enum-told
-    enum-known-answer
+    hold-drawn-requires
     returns-2
     returns-3)

@@ -1,13 +1,13 @@
-use Rattle.board.proofs.Answering.{ten-job, answer-job}
+use Rattle.board.proofs.Answering.{stays-tells, ten-job, answer-job}
 use borrow.Author.Needs.{needs}
 use Rattle.board.proofs.Board.write_job.Statement.{statement}
 use Rattle.board.proofs.Board.write_job.Tie as tie
 
-as-loaded-requires : tie.Need-as-loaded-requires
-as-loaded-requires c κs = search needs
+stays-requires : tie.Need-stays-requires
+stays-requires c κs = search needs
 
 returns : tie.Need-returns
-returns c = search (ten-job, needs)
+returns c = search (stays-tells, ten-job, needs)
 
 write-job-requires : tie.Need-write-job-requires
 write-job-requires c κs = search needs
@@ -25,8 +25,7 @@ pub write-job-spec : {M : Type 1} → statement M
 write-job-spec =
     tie.close
     (tie.spec
-    as-loaded-requires
-    returns
+    stays-requires returns
     write-job-requires
     written-reply-requires
     same-length

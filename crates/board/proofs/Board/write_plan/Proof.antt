@@ -1,13 +1,13 @@
-use Rattle.board.proofs.Answering.{ten-plan, answer-plan}
+use Rattle.board.proofs.Answering.{stays-tells, ten-plan, answer-plan}
 use borrow.Author.Needs.{needs}
 use Rattle.board.proofs.Board.write_plan.Statement.{statement}
 use Rattle.board.proofs.Board.write_plan.Tie as tie
 
-as-loaded-requires : tie.Need-as-loaded-requires
-as-loaded-requires c κs = search needs
+stays-requires : tie.Need-stays-requires
+stays-requires c κs = search needs
 
 returns : tie.Need-returns
-returns c = search (ten-plan, needs)
+returns c = search (stays-tells, ten-plan, needs)
 
 write-plan-requires : tie.Need-write-plan-requires
 write-plan-requires c κs = search needs
@@ -25,8 +25,7 @@ pub write-plan-spec : {M : Type 1} → statement M
 write-plan-spec =
     tie.close
     (tie.spec
-    as-loaded-requires
-    returns
+    stays-requires returns
     write-plan-requires
     written-reply-requires
     same-length

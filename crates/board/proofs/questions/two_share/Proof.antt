@@ -4,7 +4,7 @@ use Rattle.board.proofs.questions.two_share.Statement.{statement}
 use Rattle.board.proofs.questions.two_share.Tie as tie
 
 returns : tie.Need-returns
-returns c = search (share-twice, needs)
+returns c = λ w h. share-twice _ _ _ _ w h (c .if1 .taken)
 
 rectangle-requires : tie.Need-rectangle-requires
 rectangle-requires c κs = search needs
@@ -16,7 +16,7 @@ share-requires : tie.Need-share-requires
 share-requires c κs = search needs
 
 returns-2 : tie.Need-returns-2
-returns-2 c = search (share-two, needs)
+returns-2 c = λ w h. share-two _ _ _ _ w h _ _ _ (c .before .before .before .if1 .left) (c .before .before .rectangle .ensures) (c .before .rectangle2 .ensures) (c .share .ensures)
 
 pub two-share-spec : {M : Type 1} → statement M
 two-share-spec =

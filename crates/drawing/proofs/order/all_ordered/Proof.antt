@@ -2,7 +2,7 @@ use Prim.Native.Nat.{_-_}
 use mathlib.Core.Path.{_≡_}
 use native.Mathlib.Nat.{sub-zero}
 use Rattle.floor.specs.Lists.{all}
-use Rattle.stars.specs.Held.{starsIn}
+use Rattle.stars.specs.Held.{starsIn, jobIn}
 use Rattle.drawing.specs.Rects.{rectsIn}
 use Rattle.drawing.specs.Tests.{starOrdered}
 use Rattle.drawing.proofs.Asking.{stars-false, stars-next, stars-all}
@@ -13,7 +13,7 @@ use Rattle.drawing.proofs.order.all_ordered.Tie as tie
 abbrev Inv-loop : tie.InvT-loop
 Inv-loop rects many ends nbr kind count i₀ i =
     all (starOrdered (rectsIn many 0 rects)) (starsIn (count - i) i ends nbr kind)
-    ≡ all (starOrdered (rectsIn many 0 rects)) (starsIn count 0 ends nbr kind)
+    ≡ all (starOrdered (rectsIn many 0 rects)) (jobIn count ends nbr kind)
 
 abbrev μ-loop : tie.MeasureT-loop
 μ-loop rects many ends nbr kind count i₀ i = count - i

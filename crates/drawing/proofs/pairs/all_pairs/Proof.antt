@@ -2,7 +2,7 @@ use Prim.Native.Nat.{_-_}
 use mathlib.Core.Path.{_≡_}
 use native.Mathlib.Nat.{sub-zero}
 use Rattle.floor.specs.Lists.{pairwise}
-use Rattle.stars.specs.Held.{starsIn}
+use Rattle.stars.specs.Held.{jobIn}
 use Rattle.drawing.specs.Rects.{rectsIn}
 use Rattle.drawing.specs.Tests.{pairOk}
 use Rattle.drawing.proofs.Asking.{pairs-false, pairs-next, pairs-all}
@@ -12,8 +12,8 @@ use Rattle.drawing.proofs.pairs.all_pairs.Tie as tie
 
 abbrev Inv-loop : tie.InvT-loop
 Inv-loop ends nbr kind count rects many v₀ v =
-    pairwise (pairOk (starsIn count 0 ends nbr kind)) (rectsIn (many - v) v rects)
-    ≡ pairwise (pairOk (starsIn count 0 ends nbr kind)) (rectsIn many 0 rects)
+    pairwise (pairOk (jobIn count ends nbr kind)) (rectsIn (many - v) v rects)
+    ≡ pairwise (pairOk (jobIn count ends nbr kind)) (rectsIn many 0 rects)
 
 abbrev μ-loop : tie.MeasureT-loop
 μ-loop ends nbr kind count rects many v₀ v = many - v

@@ -1,7 +1,7 @@
 use Prim.Native.Nat.{_-_}
 use mathlib.Core.Path.{_≡_}
 use Rattle.floor.specs.Lists.{all}
-use Rattle.stars.specs.Held.{starsIn}
+use Rattle.stars.specs.Held.{jobIn}
 use Rattle.drawing.specs.Rects.{rectIn, rectsIn}
 use Rattle.drawing.specs.Tests.{pairOk}
 use Rattle.drawing.proofs.Asking.{rects-false, rects-next, rects-all}
@@ -11,8 +11,8 @@ use Rattle.drawing.proofs.pairs.later_ok.Tie as tie
 
 abbrev Inv-loop : tie.InvT-loop
 Inv-loop ends nbr kind count rects many first r v₀ v =
-    all (pairOk (starsIn count 0 ends nbr kind) (rectIn r)) (rectsIn (many - v) v rects)
-    ≡ all (pairOk (starsIn count 0 ends nbr kind) (rectIn r)) (rectsIn (many - first) first rects)
+    all (pairOk (jobIn count ends nbr kind) (rectIn r)) (rectsIn (many - v) v rects)
+    ≡ all (pairOk (jobIn count ends nbr kind) (rectIn r)) (rectsIn (many - first) first rects)
 
 abbrev μ-loop : tie.MeasureT-loop
 μ-loop ends nbr kind count rects many first r v₀ v = many - v

@@ -21,14 +21,14 @@ put-frame-requires c κs = search needs
 slice-aggregate-put-rooms : tie.Need-slice-aggregate-put-rooms
 slice-aggregate-put-rooms c = search needs
 
-wide-requires : tie.Need-wide-requires
-wide-requires c κs = search needs
-
 put-rooms-requires : tie.Need-put-rooms-requires
 put-rooms-requires c κs = search needs
 
+cast-t14 : tie.Need-cast-t14
+cast-t14 c = search needs
+
 returns : tie.Need-returns
-returns c = plan-put (c .before .before .before .before .before .before .before .before .before .before .args .walls) (c .before .before .before .before .before .before .before .before .before .before .args .sheet) (c .before .before .before .before .before .before .before .before .before .before .args .rooms) _ _ _ _ (c .before .before .before .before .before .before .before .before .before .noughts .ensures) (c .before .before .before .before .before .put-frame .ensures) (c .before .before .wide .ensures .0) (c .before .put-rooms .ensures)
+returns c = search (plan-put, needs)
 
 pub plan-of-spec : {M : Type 1} → statement M
 plan-of-spec =
@@ -40,6 +40,6 @@ plan-of-spec =
     slice-aggregate-put-frame
     put-frame-requires
     slice-aggregate-put-rooms
-    wide-requires
     put-rooms-requires
+    cast-t14
     returns)

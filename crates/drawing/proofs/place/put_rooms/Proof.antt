@@ -5,20 +5,22 @@ use lib.ListN.{length}
 use lib.Seq.{sets}
 use Rattle.floor.specs.Lists.{upFrom}
 use Rattle.drawing.specs.Rects.{flat}
-use Rattle.drawing.specs.Drawn.{walled}
+use Rattle.drawing.specs.Drawn.{walledBy}
 use Rattle.drawing.proofs.Placing.{rooms-first, rooms-more, rooms-done}
 use borrow.Author.Needs.{needs}
 use Rattle.drawing.proofs.place.put_rooms.Statement.{statement}
 use Rattle.drawing.proofs.place.put_rooms.Tie as tie
 
 abbrev Inv-loop : tie.InvT-loop
-Inv-loop rects₀ walls count i₀ rects i = (length rects ≡ length rects₀) × (sets rects (4 * (4 + i)) (flat (map (walled walls) (upFrom (4 + i) (count - i)))) ≡ sets rects₀ 16 (flat (map (walled walls) (upFrom 4 count))))
+Inv-loop rects₀ xs ys count i₀ rects i =
+    (length rects ≡ length rects₀)
+    × (sets rects (4 * (4 + i)) (flat (map (walledBy xs ys) (upFrom (4 + i) (count - i)))) ≡ sets rects₀ 16 (flat (map (walledBy xs ys) (upFrom 4 count))))
 
 abbrev μ-loop : tie.MeasureT-loop
-μ-loop rects₀ walls count i₀ rects i = count - i
+μ-loop rects₀ xs ys count i₀ rects i = count - i
 
 loop-holds : tie.Need-loop-holds Inv-loop μ-loop
-loop-holds c = (refl, rooms-first _ _ _)
+loop-holds c = (refl, rooms-first _ _ _ _)
 
 add-room-rect : tie.Need-add-room-rect Inv-loop μ-loop
 add-room-rect c = search needs

@@ -1,29 +1,27 @@
 use Prim.Native.Nat.{_+_, _-_, _*_, _≤_}
 use mathlib.Core.Path.{_≡_, refl}
 use mathlib.Core.List.{map}
-use lib.ListN.{drop}
+use lib.ListN.{length, drop}
 use lib.Seq.{sets}
 use native.Mathlib.Nat.{add-zero}
 use Rattle.floor.specs.Jobs.{entries}
 use Rattle.stars.specs.Held.{toOf, kindOf}
-use Rattle.jobs.proofs.Filling.{fill-more, fill-done, star-put}
+use Rattle.jobs.proofs.Filling.{fill-more, fill-done}
 use borrow.Author.Needs.{needs}
 use Rattle.jobs.proofs.fill.put_star.Statement.{statement}
 use Rattle.jobs.proofs.fill.put_star.Tie as tie
 
 abbrev Inv-loop : tie.InvT-loop
-Inv-loop m star n last k more₀ i₀ more i =
-    (i ≤ k) × (more .ends ≡ more₀ .ends) × (sets (more .nbr) (m + i) (map toOf (entries (drop (2 * i) star))) ≡ sets (more₀ .nbr) m (map toOf (entries star)))
-    × (sets (more .kind) (m + i) (map kindOf (entries (drop (2 * i) star))) ≡ sets (more₀ .kind) m (map kindOf (entries star)))
+Inv-loop nbr₀ kind₀ m star k i₀ nbr kind i =
+    (i ≤ k) × (length nbr ≡ length nbr₀) × (length kind ≡ length kind₀)
+    × (sets nbr (m + i) (map toOf (entries (drop (2 * i) star))) ≡ sets nbr₀ m (map toOf (entries star)))
+    × (sets kind (m + i) (map kindOf (entries (drop (2 * i) star))) ≡ sets kind₀ m (map kindOf (entries star)))
 
 abbrev μ-loop : tie.MeasureT-loop
-μ-loop m star n last k more₀ i₀ more i = k - i
-
-wide-requires : tie.Need-wide-requires Inv-loop μ-loop
-wide-requires c κs = search needs
+μ-loop nbr₀ kind₀ m star k i₀ nbr kind i = k - i
 
 loop-holds : tie.Need-loop-holds Inv-loop μ-loop
-loop-holds c = (search needs, refl, rw add-zero, rw add-zero)
+loop-holds c = (search needs, refl, refl, rw add-zero, rw add-zero)
 
 mul-neighbour : tie.Need-mul-neighbour Inv-loop μ-loop
 mul-neighbour c = search needs
@@ -34,29 +32,29 @@ shared-slice-read-neighbour c = search needs
 neighbour-requires : tie.Need-neighbour-requires Inv-loop μ-loop
 neighbour-requires c κs = search needs
 
-add-more : tie.Need-add-more Inv-loop μ-loop
-add-more c = search needs
+add-nbr : tie.Need-add-nbr Inv-loop μ-loop
+add-nbr c = search needs
 
-mul-more : tie.Need-mul-more Inv-loop μ-loop
-mul-more c = search needs
+mul-nbr : tie.Need-mul-nbr Inv-loop μ-loop
+mul-nbr c = search needs
 
-element-write-more : tie.Need-element-write-more Inv-loop μ-loop
-element-write-more c = search needs
+slice-write-nbr : tie.Need-slice-write-nbr Inv-loop μ-loop
+slice-write-nbr c = search needs
 
-mul-more-2 : tie.Need-mul-more-2 Inv-loop μ-loop
-mul-more-2 c = search needs
+mul-kind : tie.Need-mul-kind Inv-loop μ-loop
+mul-kind c = search needs
 
-add-more-2 : tie.Need-add-more-2 Inv-loop μ-loop
-add-more-2 c = search needs
+add-kind : tie.Need-add-kind Inv-loop μ-loop
+add-kind c = search needs
 
-shared-slice-read-more : tie.Need-shared-slice-read-more Inv-loop μ-loop
-shared-slice-read-more c = search needs
+shared-slice-read-kind : tie.Need-shared-slice-read-kind Inv-loop μ-loop
+shared-slice-read-kind c = search needs
 
-add-more-3 : tie.Need-add-more-3 Inv-loop μ-loop
-add-more-3 c = search needs
+add-kind-2 : tie.Need-add-kind-2 Inv-loop μ-loop
+add-kind-2 c = search needs
 
-element-write-more-2 : tie.Need-element-write-more-2 Inv-loop μ-loop
-element-write-more-2 c = search needs
+slice-write-kind : tie.Need-slice-write-kind Inv-loop μ-loop
+slice-write-kind c = search needs
 
 add-i : tie.Need-add-i Inv-loop μ-loop
 add-i c = search needs
@@ -65,25 +63,16 @@ loop-less : tie.Need-loop-less Inv-loop μ-loop
 loop-less c = search needs
 
 loop-again : tie.Need-loop-again Inv-loop μ-loop
-loop-again c = (search needs, search needs, search (fill-more toOf, needs), search (fill-more kindOf, needs))
+loop-again c = (search needs, search needs, search needs, search (fill-more toOf, needs), search (fill-more kindOf, needs))
 
-add-more-4 : tie.Need-add-more-4 Inv-loop μ-loop
-add-more-4 c = search needs
+same-length : tie.Need-same-length Inv-loop μ-loop
+same-length c = search needs
 
-cast-more : tie.Need-cast-more Inv-loop μ-loop
-cast-more c = search needs
-
-mul-more-3 : tie.Need-mul-more-3 Inv-loop μ-loop
-mul-more-3 c = search needs
-
-element-write-more-3 : tie.Need-element-write-more-3 Inv-loop μ-loop
-element-write-more-3 c = search needs
-
-add-more-5 : tie.Need-add-more-5 Inv-loop μ-loop
-add-more-5 c = search needs
+same-length-2 : tie.Need-same-length-2 Inv-loop μ-loop
+same-length-2 c = search needs
 
 returns : tie.Need-returns Inv-loop μ-loop
-returns c = search (star-put, fill-done toOf, fill-done kindOf, needs)
+returns c = (search (fill-done toOf, needs), search (fill-done kindOf, needs))
 
 pub put-star-spec : {M : Type 1} → statement M
 put-star-spec =
@@ -91,25 +80,21 @@ put-star-spec =
     (tie.spec
     Inv-loop
     μ-loop
-    wide-requires
     loop-holds
     mul-neighbour
     shared-slice-read-neighbour
     neighbour-requires
-    add-more
-    mul-more
-    element-write-more
-    mul-more-2
-    add-more-2
-    shared-slice-read-more
-    add-more-3
-    element-write-more-2
+    add-nbr
+    mul-nbr
+    slice-write-nbr
+    mul-kind
+    add-kind
+    shared-slice-read-kind
+    add-kind-2
+    slice-write-kind
     add-i
     loop-less
     loop-again
-    add-more-4
-    cast-more
-    mul-more-3
-    element-write-more-3
-    add-more-5
+    same-length
+    same-length-2
     returns)

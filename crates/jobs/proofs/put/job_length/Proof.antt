@@ -1,25 +1,23 @@
-use Prim.Native.Nat.{_+_, _-_, _*_, _≤_}
+use Prim.Native.Nat.{ℕ, _+_, _-_, _*_, _≤_}
 use mathlib.Core.Path.{_≡_}
+use mathlib.Core.List.{List}
 use lib.ListN.{length}
 use Rattle.floor.specs.Jobs.{writeStars, writeJob}
-use Rattle.stars.specs.Held.{starsIn, jobOf}
+use Rattle.stars.specs.Held.{starsIn, jobIn}
 use Rattle.jobs.proofs.Writing.{total-first, total-more, total-done}
 use borrow.Author.Needs.{needs}
 use Rattle.jobs.proofs.put.job_length.Statement.{statement}
 use Rattle.jobs.proofs.put.job_length.Tie as tie
 
 abbrev Inv-loop : tie.InvT-loop
-Inv-loop stars count total₀ i₀ total i =
-    (total ≤ 4 + 723 * i) × (total + length (writeStars (starsIn (count - i) i (stars .ends) (stars .nbr) (stars .kind))) ≡ length (writeJob (jobOf stars)))
+Inv-loop ends nbr count total₀ i₀ total i = (total ≤ 4 + 723 * i)
+    × ((kind : List ℕ) → total + length (writeStars (starsIn (count - i) i ends nbr kind)) ≡ length (writeJob (jobIn count ends nbr kind)))
 
 abbrev μ-loop : tie.MeasureT-loop
-μ-loop stars count total₀ i₀ total i = count - i
-
-wide-requires : tie.Need-wide-requires Inv-loop μ-loop
-wide-requires c κs = search needs
+μ-loop ends nbr count total₀ i₀ total i = count - i
 
 loop-holds : tie.Need-loop-holds Inv-loop μ-loop
-loop-holds c = search (total-first, needs)
+loop-holds c = (search needs, λ kind. total-first _ _ _ kind)
 
 star-length-requires : tie.Need-star-length-requires Inv-loop μ-loop
 star-length-requires c κs = search needs
@@ -40,10 +38,10 @@ loop-less : tie.Need-loop-less Inv-loop μ-loop
 loop-less c = search needs
 
 loop-again : tie.Need-loop-again Inv-loop μ-loop
-loop-again c = (search needs, search (total-more, needs))
+loop-again c = (search needs, λ kind. total-more _ _ kind _ _ (c .before .loop-test .taken) _ _ _ (c .star-length .ensures .0) (c .before .before .loop .inv .1 kind))
 
 returns : tie.Need-returns Inv-loop μ-loop
-returns c = search (total-done, needs)
+returns c = λ kind. total-done _ _ kind _ _ (search needs) _ _ (c .before .loop .inv .1 kind)
 
 pub job-length-spec : {M : Type 1} → statement M
 job-length-spec =
@@ -51,7 +49,6 @@ job-length-spec =
     (tie.spec
     Inv-loop
     μ-loop
-    wide-requires
     loop-holds
     star-length-requires
     mul-total

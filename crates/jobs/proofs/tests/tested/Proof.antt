@@ -30,6 +30,9 @@ returns-3 c = search (tells-5, needs)
 hold-requires : tie.Need-hold-requires
 hold-requires c κs = search needs
 
+word-requires : tie.Need-word-requires
+word-requires c κs = search needs
+
 answered-requires : tie.Need-answered-requires
 answered-requires c κs = search needs
 
@@ -40,7 +43,16 @@ returns-4 : tie.Need-returns-4
 returns-4 c = search (tells-6, needs)
 
 returns-5 : tie.Need-returns-5
-returns-5 c = search (tells-job, needs)
+returns-5 c =
+    let word = c .before .before in
+    let hold = word .before .before .before .before .before .before .before .before in
+    let fifth = hold .before in
+    let fourth = fifth .before .before in
+    let third = fourth .before .before in
+    let start = third .before .before in
+    tells-job (start .args .job .now) (start .args .n) (start .args .at) (start .args .pairs) (start .pre .0) (start .pre .1) (third .if1 .left) _ _ _
+    (fourth .before .entries-pass .ensures) (fourth .if2 .left) (fifth .before .stars-pass .ensures) (fifth .if3 .left) _ (hold .hold .ensures) _
+    (word .word .ensures) (c .before .answered .ensures) (c .if4 .left)
 
 pub tested-spec : {M : Type 1} → statement M
 tested-spec =
@@ -55,6 +67,7 @@ tested-spec =
     refused-requires-3
     returns-3
     hold-requires
+    word-requires
     answered-requires
     refused-requires-4
     returns-4

@@ -1,56 +1,16 @@
-use Prim.Native.Nat.{_+_, _-_}
-use mathlib.Core.Path.{_≡_}
-use native.Mathlib.Nat.{sub-zero}
-use Rattle.stars.specs.Rooms.{allFrom}
-use Rattle.stars.specs.Held.{starsIn, starAnswers}
-use Rattle.stars.proofs.Holding.{stars-false, stars-next, stars-done, test6-held}
+use Rattle.stars.proofs.Holding.{test6-counted}
 use borrow.Author.Needs.{needs}
 use Rattle.stars.proofs.held.answered.Statement.{statement}
 use Rattle.stars.proofs.held.answered.Tie as tie
 
-abbrev Inv-loop : tie.InvT-loop
-Inv-loop stars count i₀ i =
-    allFrom (starAnswers (starsIn count 0 (stars .ends) (stars .nbr) (stars .kind))) (4 + i) (starsIn (count - i) i (stars .ends) (stars .nbr) (stars .kind))
-    ≡ allFrom (starAnswers (starsIn count 0 (stars .ends) (stars .nbr) (stars .kind))) 4 (starsIn count 0 (stars .ends) (stars .nbr) (stars .kind))
+number-requires : tie.Need-number-requires
+number-requires c κs = search needs
 
-abbrev μ-loop : tie.MeasureT-loop
-μ-loop stars count i₀ i = count - i
+all-answered-requires : tie.Need-all-answered-requires
+all-answered-requires c κs = search needs
 
-wide-requires : tie.Need-wide-requires Inv-loop μ-loop
-wide-requires c κs = search needs
-
-loop-holds : tie.Need-loop-holds Inv-loop μ-loop
-loop-holds c = rw sub-zero
-
-star-answered-requires : tie.Need-star-answered-requires Inv-loop μ-loop
-star-answered-requires c κs = search needs
-
-returns : tie.Need-returns Inv-loop μ-loop
-returns c = search (test6-held, stars-false, needs)
-
-add-i : tie.Need-add-i Inv-loop μ-loop
-add-i c = search needs
-
-loop-less : tie.Need-loop-less Inv-loop μ-loop
-loop-less c = search needs
-
-loop-again : tie.Need-loop-again Inv-loop μ-loop
-loop-again c = search (stars-next, needs)
-
-returns-2 : tie.Need-returns-2 Inv-loop μ-loop
-returns-2 c = search (test6-held, stars-done, needs)
+returns : tie.Need-returns
+returns c = search (test6-counted, needs)
 
 pub answered-spec : {M : Type 1} → statement M
-answered-spec =
-    tie.close
-    (tie.spec
-    Inv-loop
-    μ-loop
-    wide-requires
-    loop-holds
-    star-answered-requires
-    returns
-    add-i
-    loop-less
-    loop-again
-    returns-2)
+answered-spec = tie.close (tie.spec number-requires all-answered-requires returns)

@@ -1,6 +1,6 @@
 use Prim.Native.Nat.{_-_}
 use mathlib.Core.Path.{_≡_}
-use Rattle.stars.specs.Held.{cells, starsIn, starAnswers}
+use Rattle.stars.specs.Held.{cells, jobIn, starAnswers}
 use Rattle.stars.proofs.Holding.{part-false, part-next, part-done}
 use borrow.Author.Needs.{needs}
 use Rattle.stars.proofs.held.part_answered.Statement.{statement}
@@ -8,8 +8,8 @@ use Rattle.stars.proofs.held.part_answered.Tie as tie
 
 abbrev Inv-loop : tie.InvT-loop
 Inv-loop ends nbr kind count u from end k₀ k =
-    starAnswers (starsIn count 0 ends nbr kind) u (cells (end - k) k nbr kind)
-    ≡ starAnswers (starsIn count 0 ends nbr kind) u (cells (end - «from») «from» nbr kind)
+    starAnswers (jobIn count ends nbr kind) u (cells (end - k) k nbr kind)
+    ≡ starAnswers (jobIn count ends nbr kind) u (cells (end - «from») «from» nbr kind)
 
 abbrev μ-loop : tie.MeasureT-loop
 μ-loop ends nbr kind count u from end k₀ k = end - k

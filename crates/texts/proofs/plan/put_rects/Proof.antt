@@ -1,9 +1,9 @@
-use Prim.Native.Nat.{_-_, _*_, _≤_}
+use Prim.Native.Nat.{_+_, _-_, _*_, _≤_}
 use mathlib.Core.Path.{_≡_, refl}
 use lib.ListN.{length, take}
 use native.Mathlib.Omega.{arith}
 use Rattle.floor.specs.Texts.{rectLines}
-use Rattle.drawing.specs.Rects.{planIn}
+use Rattle.drawing.specs.Rects.{rectsIn}
 use Rattle.letters.specs.Puts.{Puts}
 use Rattle.texts.proofs.Plans.{lines-none, none-short, rects-more, more-short, rects-done, rects-short}
 use borrow.Author.Needs.{needs}
@@ -11,12 +11,12 @@ use Rattle.texts.proofs.plan.put_rects.Statement.{statement}
 use Rattle.texts.proofs.plan.put_rects.Tie as tie
 
 abbrev Inv-loop : tie.InvT-loop
-Inv-loop plan out₀ at many next₀ v₀ out next v =
-    (length out ≡ length out₀) × (v ≤ many) × Puts out₀ at (rectLines (take v (planIn plan .rects))) out next
-    × (length (rectLines (take v (planIn plan .rects))) ≤ 30 * v)
+Inv-loop rects rooms out₀ at many next₀ v₀ out next v =
+    (length out ≡ length out₀) × (v ≤ many) × Puts out₀ at (rectLines (take v (rectsIn (rooms + 4) 0 rects))) out next
+    × (length (rectLines (take v (rectsIn (rooms + 4) 0 rects))) ≤ 30 * v)
 
 abbrev μ-loop : tie.MeasureT-loop
-μ-loop plan out₀ at many next₀ v₀ out next v = many - v
+μ-loop rects rooms out₀ at many next₀ v₀ out next v = many - v
 
 wide-requires : tie.Need-wide-requires Inv-loop μ-loop
 wide-requires c κs = search needs

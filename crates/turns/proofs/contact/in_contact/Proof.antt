@@ -15,9 +15,6 @@ is-room-requires-2 c κs = search needs
 returns-2 : tie.Need-returns-2
 returns-2 c = search (no-second, needs)
 
-wide-requires : tie.Need-wide-requires
-wide-requires c κs = search needs
-
 star-names-requires : tie.Need-star-names-requires
 star-names-requires c κs = search needs
 
@@ -27,11 +24,4 @@ returns-3 c = search (two-rooms, needs)
 pub in-contact-spec : {M : Type 1} → statement M
 in-contact-spec =
     tie.close
-    (tie.spec
-    is-room-requires
-    returns
-    is-room-requires-2
-    returns-2
-    wide-requires
-    star-names-requires
-    returns-3)
+    (tie.spec is-room-requires returns is-room-requires-2 returns-2 star-names-requires returns-3)

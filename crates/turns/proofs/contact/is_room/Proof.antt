@@ -6,14 +6,8 @@ use Rattle.turns.proofs.contact.is_room.Tie as tie
 returns : tie.Need-returns
 returns c = search (low-room, needs)
 
-wide-requires : tie.Need-wide-requires
-wide-requires c κs = search needs
-
-add-result : tie.Need-add-result
-add-result c = search needs
-
 returns-2 : tie.Need-returns-2
 returns-2 c = search (high-room, needs)
 
 pub is-room-spec : {M : Type 1} → statement M
-is-room-spec = tie.close (tie.spec returns wide-requires add-result returns-2)
+is-room-spec = tie.close (tie.spec returns returns-2)

@@ -4,7 +4,7 @@ use native.Mathlib.Omega.{arith}
 use mathlib.Core.Bool.{true, false}
 use lib.ListN.{length}
 use Rattle.floor.specs.Walls.{rules}
-use Rattle.stars.specs.Held.{starsIn}
+use Rattle.stars.specs.Held.{jobIn}
 use Rattle.walls.specs.Jobs.{axisOf}
 use Rattle.walls.specs.Steps.{isOver}
 use Rattle.walls.proofs.Telling.{named-same}
@@ -43,7 +43,7 @@ returns c =
     let s = ones .before .before .before .before .before .before in
     let o : isOver (all .climb-all .result) ≡ true = sym (over .is-over .ensures) ∙ c .before .before .before .before .if1 .taken in
     let q : length (all .climb-all .last .0) ≡ length (s .args .f .now) = search needs in
-    let E = rules (axisOf (s .args .way)) (starsIn (s .args .count) 0 (s .args .ends .now) (s .args .nbr .now) (s .args .kind .now)) in
+    let E = rules (axisOf (s .args .way)) (jobIn (s .args .count) (s .args .ends .now) (s .args .nbr .now) (s .args .kind .now)) in
     climbed-circle E (all .climb-all .result) (ones .fill .last .0) (all .climb-all .last .0) (c .before .before .fill2 .last .0) (s .args .count + 1)
     (length (s .args .f .now)) (length (s .args .f .now)) (ones .fill .ensures) (all .climb-all .ensures) o
     (job-enough (s .args .ends .now) (s .args .nbr .now) (s .args .kind .now) (s .args .count) (length (s .args .f .now)) (s .args .count + 1) (s .args .way)
@@ -55,7 +55,7 @@ settle-requires c κs =
     let all = over .before .before .before in
     let ones = all .before .before .before .before in
     let s = ones .before .before .before .before .before .before in
-    let E = rules (axisOf (s .args .way)) (starsIn (s .args .count) 0 (s .args .ends .now) (s .args .nbr .now) (s .args .kind .now)) in
+    let E = rules (axisOf (s .args .way)) (jobIn (s .args .count) (s .args .ends .now) (s .args .nbr .now) (s .args .kind .now)) in
     let no : isOver (all .climb-all .result) ≡ false = sym (over .is-over .ensures) ∙ c .before .if1 .left in
     let q : length (all .climb-all .last .0) ≡ length (s .args .f .now) = search needs in (
       search needs,
@@ -78,7 +78,7 @@ returns-2 c =
     let all = settled .before .before .before .before .before .before in
     let s = all .before .before .before .before .before .before .before .before .before .before in
     let q : length (all .climb-all .last .0) ≡ length (s .args .f .now) = search needs in
-    let E = rules (axisOf (s .args .way)) (starsIn (s .args .count) 0 (s .args .ends .now) (s .args .nbr .now) (s .args .kind .now)) in
+    let E = rules (axisOf (s .args .way)) (jobIn (s .args .count) (s .args .ends .now) (s .args .nbr .now) (s .args .kind .now)) in
     answers-same E (settled .settle .result) (settled .settle .last .0) (length (all .climb-all .last .0)) (length (s .args .f .now)) q
     (settled .settle .ensures)
 

@@ -3,7 +3,7 @@ use mathlib.Core.Path.{_≡_, refl}
 use lib.ListN.{length}
 use Rattle.floor.specs.Walls.{rules}
 use Rattle.floor.specs.Walls.Relax.{total, Reached}
-use Rattle.stars.specs.Held.{starsIn}
+use Rattle.stars.specs.Held.{jobIn}
 use Rattle.walls.specs.declared.Step.the-variants.{Over}
 use Rattle.walls.specs.Steps.{Capped}
 use Rattle.walls.specs.Jobs.{axisOf}
@@ -15,7 +15,7 @@ use Rattle.walls.proofs.number.settle.Tie as tie
 
 abbrev Inv-loop : tie.InvT-loop
 Inv-loop f₀ way ends nbr kind count top f =
-    (length f ≡ length f₀) × Reached (rules (axisOf way) (starsIn count 0 ends nbr kind)) f × Capped f top
+    (length f ≡ length f₀) × Reached (rules (axisOf way) (jobIn count ends nbr kind)) f × Capped f top
 
 abbrev μ-loop : tie.MeasureT-loop
 μ-loop f₀ way ends nbr kind count top f = length f₀ * top - total f
@@ -60,7 +60,7 @@ returns-2 c =
     let d = c .before .before .before .before .before .before .before .before .pass in
     let e : d .result ≡ Over = cc in
     let q : length (d .last .0) ≡ length (s .args .f .now) = search needs in
-    ran-circle (rules (axisOf (s .args .way)) (starsIn (s .args .count) 0 (s .args .ends .now) (s .args .nbr .now) (s .args .kind .now))) (d .result)
+    ran-circle (rules (axisOf (s .args .way)) (jobIn (s .args .count) (s .args .ends .now) (s .args .nbr .now) (s .args .kind .now))) (d .result)
     (l .f) (d .last .0) (c .before .before .fill .last .0) (s .args .top) (length (s .args .f .now)) e (d .ensures) (l .inv .1) (s .pre .3) q
     (c .before .before .fill .ensures)
 

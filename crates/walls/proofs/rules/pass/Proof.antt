@@ -4,7 +4,7 @@ use mathlib.Core.Bool.{true}
 use native.Mathlib.Nat.{sub-zero}
 use lib.ListN.{length}
 use Rattle.floor.specs.Walls.{rulesFrom, rules}
-use Rattle.stars.specs.Held.{starsIn}
+use Rattle.stars.specs.Held.{starsIn, jobIn}
 use Rattle.walls.specs.Jobs.{axisOf, named}
 use Rattle.walls.proofs.Running.{Going, going-start}
 use Rattle.walls.proofs.Telling.{rooms-here, rooms-later, pass-next, pass-done}
@@ -15,7 +15,7 @@ use Rattle.walls.proofs.rules.pass.Tie as tie
 abbrev Inv-loop : tie.InvT-loop
 Inv-loop f₀ way ends nbr kind count top done₀ i₀ f done i =
     (length f ≡ length f₀) × (named (length f₀) (starsIn (count - i) i ends nbr kind) ≡ true)
-    × Going done (rulesFrom (axisOf way) (4 + i) (starsIn (count - i) i ends nbr kind)) (rules (axisOf way) (starsIn count 0 ends nbr kind)) f₀ f top
+    × Going done (rulesFrom (axisOf way) (4 + i) (starsIn (count - i) i ends nbr kind)) (rules (axisOf way) (jobIn count ends nbr kind)) f₀ f top
 
 abbrev μ-loop : tie.MeasureT-loop
 μ-loop f₀ way ends nbr kind count top done₀ i₀ f done i = count - i

@@ -1,7 +1,7 @@
 use Prim.Native.Nat.{_-_}
 use mathlib.Core.Path.{_≡_}
 use native.Mathlib.Nat.{sub-zero}
-use Rattle.stars.specs.Held.{starsIn}
+use Rattle.stars.specs.Held.{starsIn, jobIn}
 use Rattle.walls.specs.Jobs.{named}
 use Rattle.walls.proofs.Telling.{all-false, all-next, all-done}
 use borrow.Author.Needs.{needs}
@@ -10,7 +10,7 @@ use Rattle.walls.proofs.vertices.all_named.Tie as tie
 
 abbrev Inv-loop : tie.InvT-loop
 Inv-loop ends nbr kind count sides i₀ i =
-    named sides (starsIn (count - i) i ends nbr kind) ≡ named sides (starsIn count 0 ends nbr kind)
+    named sides (starsIn (count - i) i ends nbr kind) ≡ named sides (jobIn count ends nbr kind)
 
 abbrev μ-loop : tie.MeasureT-loop
 μ-loop ends nbr kind count sides i₀ i = count - i
