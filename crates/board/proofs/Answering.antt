@@ -45,6 +45,7 @@ none-held s p e f = rw (e, f)
 
 -- ---- a job planned
 
+-- a job planned that says refusal k and keeps no board tells of an answer that is refusal k
 refuses : (r : Planned) (x : Answer) (k : ℕ) → x ≡ refused k → (r .answer ≡ Undrawn k) × (r .board ≡ noBoard) → Plans r x
 unfolding said kept
 refuses r x k e p = record { says = rw (p .0, e); keeps = rw e (p .1) }
@@ -62,16 +63,19 @@ module _ (bs : List ℕ) (r : Read) (t : ReadTells r (firstSix (readJob bs))) wh
     abbrev j : Job
     j = jobOf (r .stars)
 
+    -- tests 1 to 6 come to that job
     six : firstSix (readJob bs) ≡ reads j
     unfolding readOutcome readSaid
     six = sym (rw e at (t .says))
 
+    -- loading the bytes comes to drawing that job
     loads-drawn : load bs ≡ drawnAny j
     unfolding load drawRead
     loads-drawn =
         let s = six-passed (readJob bs) j six in
         ap drawRead six ∙ sym (drawn-any j (read-test2 bs j (s .reading)) (passes-of j (s .pass4) (s .pass5) (s .pass6)))
 
+    -- the stars that were read are that job, held
     stars-held : r .stars ≡ heldOf j
     unfolding readKept
     stars-held = rw six at (t .keeps)
@@ -84,6 +88,7 @@ module _ (bs : List ℕ) (r : Read) (t : ReadTells r (firstSix (readJob bs))) wh
           let g : drawnAny j ≡ refused k = sym (rw f at (u .says)) in
           refuses q (load bs) k (loads-drawn ∙ g) p
 
+      -- past all of them: drawn, and the stars and the plan are kept
       pub plan-drawn : d .answer ≡ Drawn → Plans (record { answer = Drawn; board = record { stars = r .stars; plan = d .plan } }) (load bs)
       unfolding said kept planKept boardFor
       plan-drawn f =
@@ -107,12 +112,14 @@ stays-tells r b k buf o e t = rw e t
 -- ---- stars drawn and held
 
 module _ (b : HeldBoard) (s : Stars) (d : Drawing) (q : Draws d (jobOf s) (drawnAny (jobOf s))) where
+  -- stars that are refused leave the very board, with the number of the test
   pub drawn-not : (k : ℕ) → d .answer ≡ Undrawn k → Tells (stayed b k) [] (newly b s (drawnAny (jobOf s)))
   unfolding said newly staying replyOf
   drawn-not k f =
       let g : drawnAny (jobOf s) ≡ refused k = sym (rw f at (q .says)) in
       rw g (record { reply = refl; board = refl; buffer = refl })
 
+  -- stars that are drawn are held with their plan, and the answer is done
   pub drawn-so : d .answer ≡ Drawn → Tells (record { board = record { stars = s; plan = d .plan }; reply = Done }) [] (newly b s (drawnAny (jobOf s)))
   unfolding said planKept newly replyOf
   drawn-so f =
@@ -126,6 +133,7 @@ module _ (b : HeldBoard) (s : Stars) (d : Drawing) (q : Draws d (jobOf s) (drawn
 -- ---- load
 
 module _ (b : HeldBoard) (bs : List ℕ) (r : Planned) (t : Plans r (load bs)) where
+  -- a job that is drawn is held, and the answer is done
   pub load-held : r .answer ≡ Drawn → Tells (record { board = r .board; reply = Done }) [] (outcome b (loads bs))
   unfolding outcome asRules step after replyOf handed said kept
   load-held d =
@@ -133,6 +141,7 @@ module _ (b : HeldBoard) (bs : List ℕ) (r : Planned) (t : Plans r (load bs)) w
       let k : r .board ≡ boardFor (jobOf (r .board .stars)) (planIn (r .board .plan)) = rw h at (t .keeps) in
       rw h (record { reply = refl; board = k; buffer = refl })
 
+  -- a job that is refused leaves the very board, with the number of the test
   pub load-refused : (k : ℕ) → r .answer ≡ Undrawn k → Tells (record { board = b; reply = Refused k }) [] (outcome b (loads bs))
   unfolding outcome asRules step after refuse replyOf handed said
   load-refused k d =
@@ -142,36 +151,44 @@ module _ (b : HeldBoard) (bs : List ℕ) (r : Planned) (t : Plans r (load bs)) w
 -- ---- 10: nothing is held
 
 module _ (b : HeldBoard) (e : b .stars .count ≡ 0) where
+  -- a board without stars holds nothing
   is-empty : boardOf b ≡ empty
   unfolding boardOf
   is-empty = rw (eq-eqb (b .stars .count) 0 e)
 
+  -- a turn is refused with 10, and the very board comes back
   pub ten-turn : (u v : ℕ) → Tells (record { board = b; reply = Refused 10 }) [] (outcome b (turns u v))
   unfolding outcome staying replyOf
   ten-turn u v = rw (eq-eqb (b .stars .count) 0 e) (record { reply = refl; board = refl; buffer = refl })
 
+  -- the question for a rectangle is refused with 10
   pub ten-rectangle : (v : ℕ) → Tells (record { board = b; reply = Refused 10 }) [] (outcome b (rectangle v))
   unfolding outcome asRules handed step refuse replyOf
   ten-rectangle v = rw is-empty (record { reply = refl; board = refl; buffer = refl })
 
+  -- the question whether two share is refused with 10
   pub ten-shares : (u v : ℕ) → Tells (record { board = b; reply = Refused 10 }) [] (outcome b (shares u v))
   unfolding outcome asRules handed step refuse replyOf
   ten-shares u v = rw is-empty (record { reply = refl; board = refl; buffer = refl })
 
+  -- the writing of the job is refused with 10, and the buffer stays
   pub ten-job : (buf : List ℕ) → Tells (record { board = b; reply = Refused 10 }) buf (outcome b (writesJob buf))
   unfolding outcome asRules handed step refuse replyOf
   ten-job buf = rw is-empty (record { reply = refl; board = refl; buffer = refl })
 
+  -- the writing of the plan is refused with 10, and the buffer stays
   pub ten-plan : (buf : List ℕ) → Tells (record { board = b; reply = Refused 10 }) buf (outcome b (writesPlan buf))
   unfolding outcome asRules handed refuse replyOf
   ten-plan buf = rw (eq-eqb (b .stars .count) 0 e) (record { reply = refl; board = refl; buffer = refl })
 
 -- ---- a job and a plan are held
 
+-- the held job has as many rooms as the stars count
 count-is : (b : HeldBoard) → b .stars .count ≡ length (jobOf (b .stars))
 unfolding jobOf
 count-is b = sym (length-stars (b .stars .count) 0 (b .stars .ends) (b .stars .nbr) (b .stars .kind))
 
+-- v is a vertex of the held job exactly if it is at most the count plus 3
 vertex-is : (b : HeldBoard) (v : ℕ) → leb v (b .stars .count + 3) ≡ isVertex (jobOf (b .stars)) v
 unfolding isVertex
 vertex-is b v = ap (λ (n : ℕ). leb v (n + 3)) (count-is b)
@@ -181,9 +198,11 @@ module _ (b : HeldBoard) (n : b .stars .count ≡ 0 → ⊥) where
   abbrev job : Job
   job = jobOf (b .stars)
 
+  -- the plan that is held
   abbrev plan : Plan
   plan = planIn (b .plan)
 
+  -- a board with stars holds that job and that plan
   is-holding : boardOf b ≡ holding job plan
   unfolding boardOf
   is-holding = rw (ne-eqb (b .stars .count) 0 n)
@@ -193,9 +212,11 @@ module _ (b : HeldBoard) (n : b .stars .count ≡ 0 → ⊥) where
       (t : (swingSaid r ≡ swingOf (jobIn m (b .stars .ends) (b .stars .nbr) (b .stars .kind)) u v)
       × (x ≡ turnedIn toOf (b .stars .nbr) m (b .stars .ends) (b .stars .nbr) (b .stars .kind) u v)
       × (y ≡ turnedIn kindOf (b .stars .kind) m (b .stars .ends) (b .stars .nbr) (b .stars .kind) u v)) where
+    -- which contact of the held job turns is what was answered
     so : swingOf job u v ≡ swingSaid r
     so = rw (← job-stars (b .stars) m em) (sym (t .0))
 
+    -- a turn that is refused leaves the very board, with its number
     pub turn-stops : (k : ℕ) → r ≡ Stops k → Tells (record { board = b; reply = Refused k }) [] (outcome b (turns u v))
     unfolding outcome turnedTo staying replyOf swingSaid
     turn-stops k e = rw (ne-eqb (b .stars .count) 0 n, so, e) (record { reply = refl; board = refl; buffer = refl })
@@ -204,6 +225,7 @@ module _ (b : HeldBoard) (n : b .stars .count ≡ 0 → ⊥) where
     abbrev next : Stars
     next = record { count = b .stars .count; ends = b .stars .ends; nbr = x; kind = y }
 
+    -- they are the held stars with both stars of the contact put where they stand
     are : (a c k : ℕ) → r ≡ Swings a c k → twoPut (b .stars) a c k ≡ next
     unfolding twoPut turnedIn swungIn swingSaid
     are a c k e =
@@ -215,6 +237,7 @@ module _ (b : HeldBoard) (n : b .stars .count ≡ 0 → ⊥) where
         rw (← job-stars (b .stars) m em) (rw g at (t .2)) in
         rw (p, q)
 
+    -- where the contact turns, what drawing and holding the turned stars tells is what the call tells
     pub turn-swings : (a c k : ℕ) → r ≡ Swings a c k → (h : Handed) → Tells h [] (newly b next (drawnAny (jobOf next))) → Tells h [] (outcome b (turns u v))
     unfolding outcome turnedTo swingSaid
     turn-swings a c k e h q =
@@ -222,12 +245,14 @@ module _ (b : HeldBoard) (n : b .stars .count ≡ 0 → ⊥) where
         rw (ne-eqb (b .stars .count) 0 n, f, are a c k e) q
 
   module _ (v : ℕ) (w : Bool) (ew : w ≡ leb v (b .stars .count + 3)) where
+    -- 13 where v is no vertex
     pub thirteen-rectangle : not w ≡ true → Tells (record { board = b; reply = Refused 13 }) [] (outcome b (rectangle v))
     unfolding outcome asRules handed step asks refuse replyOf
     thirteen-rectangle m =
         let e : isVertex job v ≡ false = sym (vertex-is b v) ∙ sym ew ∙ not-true w m in
         rw (is-holding, e) (record { reply = refl; board = refl; buffer = refl })
 
+    -- else the rectangle of v
     pub answer-rectangle : not w ≡ false → (r : HeldRect) → rectIn r ≡ getD (rectsIn (b .plan .rooms + 4) 0 (b .plan .rects)) v nowhere
         → Tells (record { board = b; reply = Spans r }) [] (outcome b (rectangle v))
     unfolding outcome asRules step asks replyOf handed
@@ -236,12 +261,14 @@ module _ (b : HeldBoard) (n : b .stars .count ≡ 0 → ⊥) where
         rw (is-holding, e) (record { reply = rw (f ∙ rect-held (b .plan) v); board = refl; buffer = refl })
 
   module _ (u v : ℕ) (w : Bool) (ew : w ≡ (leb u (b .stars .count + 3) && leb v (b .stars .count + 3))) where
+    -- 13 where one of the two is no vertex
     pub thirteen-shares : not w ≡ true → Tells (record { board = b; reply = Refused 13 }) [] (outcome b (shares u v))
     unfolding outcome asRules handed step asks refuse replyOf
     thirteen-shares m =
         let e : (isVertex job u && isVertex job v) ≡ false = rw (← vertex-is b u, ← vertex-is b v) (sym ew ∙ not-true w m) in
         rw (is-holding, e) (record { reply = refl; board = refl; buffer = refl })
 
+    -- else whether the two share a wall
     pub answer-shares : not w ≡ false → (a : Bool) → ((x y : ℕ) → a ≡ sharing (planFrom x y (b .plan .rooms + 4) (b .plan .rects)) u v)
         → Tells (record { board = b; reply = Says a }) [] (outcome b (shares u v))
     unfolding outcome asRules step asks replyOf handed
@@ -253,6 +280,7 @@ module _ (b : HeldBoard) (n : b .stars .count ≡ 0 → ⊥) where
 pub one-no : (n u v : ℕ) (a : Bool) → a ≡ leb u (n + 3) → not a ≡ true → false ≡ (leb u (n + 3) && leb v (n + 3))
 one-no n u v a e h = rw (← e, not-true a h)
 
+-- where the first is a vertex, both are exactly if the second is
 pub both-yes : (n u v : ℕ) (a r : Bool) → a ≡ leb u (n + 3) → not a ≡ false → r ≡ leb v (n + 3) → r ≡ (leb u (n + 3) && leb v (n + 3))
 both-yes n u v a r e h f = rw (← e, not-false a h) f
 
@@ -262,10 +290,12 @@ module _ (l : List ℕ) (rooms u v : ℕ) (w h : ℕ) where
   abbrev on : Plan
   on = planFrom w h (rooms + 4) l
 
+  -- one vertex asked twice: no
   pub share-twice : u ≡ v → false ≡ sharing on u v
   unfolding sharing
   share-twice e = rw (eq-eqb u v e)
 
+  -- two vertices share exactly if their rectangles do
   pub share-two : (r s : HeldRect) (a : Bool) → (u ≡ v → ⊥) → rectIn r ≡ getD (rectsIn (rooms + 4) 0 l) u nowhere
       → rectIn s ≡ getD (rectsIn (rooms + 4) 0 l) v nowhere → a ≡ share (rectIn r) (rectIn s) → a ≡ sharing on u v
   unfolding sharing rectOf
@@ -276,10 +306,12 @@ pub reply-wrote : (w : Written) (n : ℕ) → w ≡ WroteSo n → replyOf (Wrote
 unfolding replyOf replied
 reply-wrote w n e = rw e
 
+-- too short a buffer is refused with 14
 pub reply-short : (w : Written) → w ≡ TooShort → replyOf (Refused 14) ≡ replied w
 unfolding replyOf replied
 reply-short w e = rw e
 
+-- what a writing answers and leaves in the buffer is what it tells on any board, and the board stays
 writes-tells : (b : HeldBoard) (c : Board) (t : Bool) (bs buf x : List ℕ) (q : Said) → replyOf q ≡ writes empty t bs buf .reply
     → x ≡ writes empty t bs buf .buffer → Tells (record { board = b; reply = q }) x (asRules b (writes c t bs buf))
 unfolding asRules writes refuse handed
@@ -291,6 +323,7 @@ module _ (b : HeldBoard) (n : b .stars .count ≡ 0 → ⊥) (buf x : List ℕ) 
   abbrev stars-job : Job
   stars-job = jobIn (b .stars .count) (b .stars .ends) (b .stars .nbr) (b .stars .kind)
 
+  -- what writing the bytes of the held job answers and leaves is what the call tells
   pub answer-job : (replied w ≡ writing (writeJob stars-job) buf .reply) × (x ≡ writing (writeJob stars-job) buf .buffer)
       → Tells (record { board = b; reply = q }) x (outcome b (writesJob buf))
   unfolding outcome step writing
@@ -302,6 +335,7 @@ module _ (b : HeldBoard) (n : b .stars .count ≡ 0 → ⊥) (buf x : List ℕ) 
   abbrev rects-plan : Plan
   rects-plan = planFrom (b .plan .width) (b .plan .height) (b .plan .rooms + 4) (b .plan .rects)
 
+  -- what writing the held plan, one byte of each number, answers and leaves is what the call tells
   pub answer-plan : (replied w ≡ writing (inBytes (writePlan rects-plan)) buf .reply) × (x ≡ writing (inBytes (writePlan rects-plan)) buf .buffer)
       → Tells (record { board = b; reply = q }) x (outcome b (writesPlan buf))
   unfolding outcome writing

@@ -8,9 +8,9 @@ use Rattle.floor.specs.Jobs.{Job, writeJob}
 use Rattle.floor.specs.Jobs.Written.{read-write-job}
 use Rattle.floor.specs.Plans.{Plan, Answer, held}
 use Rattle.floor.specs.Floor.{Floor}
-use Rattle.floor.specs.Calls.{load, Board, empty, holding, Call, loads, turns, writesJob, Reply, refusal, done, wrote, lent, Step, refuse, after, step, run}
+use Rattle.floor.specs.Calls.{load, Board, empty, holding, Call, loads, turns, writesJob, Reply, refusal, done, wrote, lent, Step, refuse, after, step, run, Restored}
 use Rattle.floor.specs.Calls.Sound.{Sound, sound-good, load-reads}
-use Rattle.floor.specs.Calls.Effects.{refused-leaves, wrote-job, Restored, turn-turn}
+use Rattle.floor.specs.Calls.Effects.{refused-leaves, wrote-job, turn-turn}
 use Rattle.board.specs.declared.Board.{Board as HeldBoard}
 use Rattle.board.specs.declared.Reply.{Reply as Said}
 use Rattle.board.specs.declared.Reply.the-variants.{Refused, Done, Wrote}
@@ -32,6 +32,7 @@ pub record AsRules (b : HeldBoard) (c : Call) (r : Handed) (buf : List ℕ) : Ty
   pub board : r .board ≡ handed b (step (boardOf b) c .reply) (step (boardOf b) c .board)
   pub holds : boardOf (r .board) ≡ step (boardOf b) c .board
 
+-- a call on a board that stands does as the rules say
 pub as-rules : (b : HeldBoard) → Stands b → (c : Call) (r : Handed) (buf : List ℕ) → Tells r buf (outcome b c) → AsRules b c r buf
 unfolding asRules
 as-rules b s c r buf t =
@@ -43,6 +44,7 @@ as-rules b s c r buf t =
       holds = ap boardOf (t .board) ∙ stands-on b s c .1;
     }
 
+-- a call on a reached board does as the rules say
 pub reached-step : (b : HeldBoard) → Reached b → (c : Call) (r : Handed) (buf : List ℕ) → Tells r buf (outcome b c) → AsRules b c r buf
 reached-step b h = as-rules b (reached-stands b h)
 
@@ -87,16 +89,19 @@ the-board b (holds-both i q s) j p e =
     let y : q ≡ p = cc in
     rw (x, y)
 
+-- where a call is done and a job and plan are then held, the board of these is handed back
 done-hands : (b : HeldBoard) (j : Job) (p : Plan) (x : Reply) (a : Board) → x ≡ done → a ≡ holding j p → handed b x a ≡ boardFor j p
 unfolding handed
 done-hands b j p x a e f = rw (e, f)
 
 -- DEMAND 3: AN ACCEPTED TURN MADE AGAIN AT ONCE, its rooms in either order, is accepted and gives back the very board before it
 module _ (b : HeldBoard) (h : Reached b) (u v : ℕ) (r : Handed) (x : List ℕ) (t : Tells r x (outcome b (turns u v))) (d : r .reply ≡ Done) where
+  -- the rules say that the turn is done
   turn-done : step (boardOf b) (turns u v) .reply ≡ done
   unfolding replyOf
   turn-done = sym (reached-step b h (turns u v) r x t .reply) ∙ ap replyOf d
 
+  -- where the rules then give the board back for a turn of m and n, that call is done and hands back the very board
   restored : (m n : ℕ) → ((j : Job) (p : Plan) → boardOf b ≡ holding j p → Restored (holding j p) (step (step (holding j p) (turns u v) .board) (turns m n)))
       → (s : Handed) (y : List ℕ) → Tells s y (outcome (r .board) (turns m n)) → (s .reply ≡ Done) × (s .board ≡ b)
   restored m n back s y q = go (boardOf b) refl
@@ -118,15 +123,19 @@ module _ (b : HeldBoard) (h : Reached b) (u v : ℕ) (r : Handed) (x : List ℕ)
           let same : step (boardOf (r .board)) (turns m n) .board ≡ holding j p = ap (λ (z : Step). z .board) f ∙ w .same-board in
           (says-done (s .reply) (a .reply ∙ accepted), a .board ∙ done-hands (r .board) j p _ _ accepted same ∙ the-board b (reached-stands b h) j p e)
 
+  -- the rules say so of the job and plan that are held
   done-of : (j : Job) (p : Plan) → boardOf b ≡ holding j p → step (holding j p) (turns u v) .reply ≡ done
   done-of j p e = ap (λ (c : Board). step c (turns u v) .reply) (sym e) ∙ turn-done
 
+  -- made again with the rooms in the same order
   pub turned-again : (s : Handed) (y : List ℕ) → Tells s y (outcome (r .board) (turns u v)) → (s .reply ≡ Done) × (s .board ≡ b)
   turned-again = restored u v (λ j p e. turn-turn j p u v (board-sound b (reached-stands b h) j p e) (done-of j p e) .0)
 
+  -- made again with the rooms in the other order
   pub turned-back : (s : Handed) (y : List ℕ) → Tells s y (outcome (r .board) (turns v u)) → (s .reply ≡ Done) × (s .board ≡ b)
   turned-back = restored v u (λ j p e. turn-turn j p u v (board-sound b (reached-stands b h) j p e) (done-of j p e) .1)
 
+-- a sound job, written and loaded into any board, is held again with its plan
 loads-so : (a : Board) (j : Job) (p : Plan) → Sound j p → (step a (loads (writeJob j)) .reply ≡ done) × (step a (loads (writeJob j)) .board ≡ holding j p)
 unfolding step after
 loads-so a j p s =

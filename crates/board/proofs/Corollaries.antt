@@ -28,6 +28,7 @@ saying (spans r) = Spans (record { vertex = r .vertex; x1 = r .x1; y1 = r .y1; x
 saying (says b) = Says b
 saying (wrote n) = Wrote n
 
+-- the reply that says what a reply says is that reply
 pub saying-back : (a : Said) → saying (replyOf a) ≡ a
 unfolding replyOf rectIn
 saying-back (Refused k) = refl
@@ -36,6 +37,7 @@ saying-back (Spans r) = refl
 saying-back (Says b) = refl
 saying-back (Wrote n) = refl
 
+-- two calls that hand back the same board and the same reply hand back the same
 same-step : (b c : HeldBoard) (x y : Said) → b ≡ c → x ≡ y → _≡_ {A = Handed} (record { board = b; reply = x }) (record { board = c; reply = y })
 same-step b c x y e f = rw (e, f)
 
@@ -49,6 +51,7 @@ one-step s r t x y p q =
 same-planned : (a c : Judged) (b d : HeldBoard) → a ≡ c → b ≡ d → _≡_ {A = Planned} (record { answer = a; board = b }) (record { answer = c; board = d })
 same-planned a c b d e f = rw (e, f)
 
+-- two answers that say the same of a job and a plan are equal
 same-judged : (a c : Judged) (j : Job) (p : Plan) (x : Answer) → said a j p ≡ x → said c j p ≡ x → a ≡ c
 unfolding said
 same-judged Drawn Drawn j p x e f = refl
@@ -56,6 +59,7 @@ same-judged Drawn (Undrawn k) j p x e f = not-held (f ∙ sym e)
 same-judged (Undrawn k) Drawn j p x e f = not-held (e ∙ sym f)
 same-judged (Undrawn k) (Undrawn l) j p x e f = let n : k ≡ l = one-number (e ∙ sym f) in cc
 
+-- two jobs planned that tell of one answer are one, in what they answer and in the board
 pub one-planned : (x : Answer) (r t : Planned) → Plans r x → Plans t x → r ≡ t
 one-planned x r t p q =
     let e : r .board ≡ t .board = p .keeps ∙ sym (q .keeps) in

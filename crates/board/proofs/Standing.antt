@@ -9,11 +9,10 @@ use lib.Dec.{eqb, leb}
 use lib.ListN.{length}
 use Rattle.floor.specs.Lists.Laws.{and-parts}
 use Rattle.floor.specs.Jobs.{Job, pairsIn, test2, test3, Reading, fails, reads, writeJob}
-use Rattle.floor.specs.Jobs.Facts.{of-passes}
+use Rattle.floor.specs.Jobs.Facts.{Passes, labelling-passes, of-passes}
 use Rattle.floor.specs.Plans.{Plan, Answer, refused, held, drawn, drawRead, writePlan}
 use Rattle.floor.specs.Plans.Held.{drawn-held}
-use Rattle.floor.specs.Turns.{turning, turn}
-use Rattle.floor.specs.Turns.Turned.{Kept}
+use Rattle.floor.specs.Turns.{turning, turn, Kept}
 use Rattle.floor.specs.Turns.Restore.{turnable, turned-keeps}
 use Rattle.floor.specs.Calls.{load, Board, empty, holding, Call, loads, turns, rectangle, shares, writesJob, writesPlan, Reply}
 use Rattle.floor.specs.Calls.{Step, refuse, after, asks, writes, step}
@@ -41,26 +40,32 @@ pub data Stands : HeldBoard → Type 0 where
 
 -- ---- what is held is given back
 
+-- tests 2 and 3 leave at most 60 rooms and at most 360 pairs
 few-of : (j : Job) → test2 (length j) ≡ true → test3 j ≡ true → (length j ≤ 60) × (pairsIn j ≤ 360)
 unfolding test2 test3
 few-of j t2 t3 = (leb-true (length j) 60 (and-parts (leb 1 (length j)) _ t2 .1), leb-true (pairsIn j) 360 t3)
 
 module _ (j : Job) (p : Plan) (s : Sound j p) where
+  -- a sound job has at most 60 rooms and at most 360 pairs
   few : (length j ≤ 60) × (pairsIn j ≤ 360)
   few = few-of j (s .pass2) (s .pass3)
 
+  -- its stars, held, give back the job
   pub stars-back : jobOf (heldOf j) ≡ j
   stars-back = job-back j (few .0) (few .1) (of-passes j (s .passes) .0)
 
+  -- its plan, held, is given back
   pub plan-back : planIn (heldPlan p) ≡ p
   plan-back = drawn-back j p (sound-good j p s .floor .complete) (few .0)
 
+  -- at least one star is held
   some-star : heldOf j .count ≡ 0 → ⊥
   some-star e =
       let l : length (jobOf (heldOf j)) ≡ heldOf j .count = unfold jobOf in length-stars (heldOf j .count) 0 (heldOf j .ends) (heldOf j .nbr) (heldOf j .kind) in
       let k : length (jobOf (heldOf j)) ≡ length j = ap length stars-back in
       omega (arith, some-room j p s)
 
+  -- the board as a load leaves it holds the job and the plan
   pub board-holds : boardOf (boardFor j p) ≡ holding j p
   unfolding boardOf boardFor
   board-holds = rw (ne-eqb (heldOf j .count) 0 some-star, stars-back, plan-back)
@@ -70,23 +75,28 @@ module _ (j : Job) (p : Plan) (s : Sound j p) where
   unfolding boardFor
   some-held = some-star
 
+  -- its stars give back the job
   job-is : jobOf (boardFor j p .stars) ≡ j
   unfolding boardFor
   job-is = stars-back
 
+  -- its rectangles give back the plan
   plan-is : planIn (boardFor j p .plan) ≡ p
   unfolding boardFor
   plan-is = plan-back
 
+-- the board at first holds nothing
 pub at-first : boardOf noBoard ≡ empty
 unfolding boardOf noBoard noStars
 at-first = refl
 
 -- ---- a turn
 
+-- boards with the same stars and the same plan are one
 same-board : (s s′ : Stars) (p : Plan) → s ≡ s′ → _≡_ {A = HeldBoard} (record { stars = s; plan = heldPlan p }) (record { stars = s′; plan = heldPlan p })
 same-board s s′ p e = rw e
 
+-- the very board and a refusal are what the rules hand back of a refusal
 stopped : (b : HeldBoard) (a : Board) (k : ℕ) → staying b k ≡ asRules b (after a (refused k))
 unfolding staying asRules after refuse handed
 stopped b a k = refl
@@ -101,6 +111,7 @@ newly-rules b a i = go (drawn i) refl
     go (held k q) e = let f : k ≡ i = drawn-held i k q e .0 in rw f
 
 module _ (j : Job) (p : Plan) (s : Sound j p) (u v : ℕ) where
+  -- the turned job, held, is given back, and drawing its stars is drawing it by the rules
   turned-drawn : (i : Job) → turning j u v ≡ reads i → (jobOf (heldOf i) ≡ i) × (drawnAny i ≡ drawn i)
   unfolding test3
   turned-drawn i h =
@@ -109,12 +120,15 @@ module _ (j : Job) (p : Plan) (s : Sound j p) (u v : ℕ) where
       let t2 : test2 (length i) ≡ true = rw (k .rooms) (s .pass2) in
       let t3 : test3 i ≡ true = rw (k .pairs) (s .pass3) in
       let (a, c) = few-of i t2 t3 in
-      (job-back i a c (of-passes i (k .passes) .0), drawn-any i t2 (k .passes))
+      let ok : Passes i = labelling-passes i (k .labelling) in
+      (job-back i a c (of-passes i ok .0), drawn-any i t2 ok)
 
+  -- both stars of the contact put where they stand are the turned job, held
   two-held : (a b t : ℕ) → swingOf j u v ≡ swings a b t → twoPut (boardFor j p .stars) a b t ≡ heldOf (twoTurned j a b t)
   unfolding boardFor
   two-held a b t f = held-turned j (few j p s .0) (few j p s .1) (stars-back j p s) u v a b t f
 
+  -- turning the contact where it stands does what the rules say of the turn
   turn-rules : turnedTo (boardFor j p) (swingOf j u v) ≡ asRules (boardFor j p) (after (holding j p) (turn j u v))
   unfolding turnedTo turn drawRead turnedJob
   turn-rules = go (swingOf j u v) refl
@@ -130,15 +144,18 @@ module _ (j : Job) (p : Plan) (s : Sound j p) (u v : ℕ) where
 
 -- ---- a plan written
 
+-- what a writing hands back does not go by what the board holds
 writes-same : (b : HeldBoard) (a c : Board) (t : Bool) (bs buf : List ℕ) → asRules b (writes a t bs buf) ≡ asRules b (writes c t bs buf)
 unfolding asRules writes refuse handed
 writes-same b a c true bs buf = refl
 writes-same b a c false bs buf = refl
 
+-- on the board at first a turn is as the rules say
 none-turns : (u v : ℕ) → outcome noBoard (turns u v) ≡ asRules noBoard (step (boardOf noBoard) (turns u v))
 unfolding outcome boardOf noBoard noStars staying step asRules refuse handed
 none-turns u v = refl
 
+-- on the board at first the writing of a plan is as the rules say
 none-writes : (buf : List ℕ) → outcome noBoard (writesPlan buf) ≡ asRules noBoard (step (boardOf noBoard) (writesPlan buf))
 unfolding outcome boardOf noBoard noStars step
 none-writes buf = refl
@@ -165,21 +182,25 @@ abbrev pub Holds : HeldBoard → Board → Type 0
 Holds b a = Stands b × (boardOf b ≡ a)
 
 module _ (b : HeldBoard) (a : Board) (h : Holds b a) where
+  -- after a load or a turn, sound in what it holds, the board that comes back stands and holds what the rules say
   left-after : (x : Answer) → ((j : Job) (p : Plan) → x ≡ held j p → Sound j p) → Holds (handed b (after a x .reply) (after a x .board)) (after a x .board)
   unfolding handed after refuse
   left-after (refused k) f = h
   left-after (held j p) f = (holds-both j p (f j p refl), board-holds j p (f j p refl))
 
+  -- so does the board that comes back from a question
   left-asks : (t : Bool) (r : Reply) → handed b r a ≡ b → Holds (handed b (asks a t r .reply) (asks a t r .board)) (asks a t r .board)
   unfolding handed asks refuse
   left-asks true r e = rw e h
   left-asks false r e = h
 
+  -- so does the board that comes back from a writing
   left-writes : (t : Bool) (bs buf : List ℕ) → Holds (handed b (writes a t bs buf .reply) (writes a t bs buf .board)) (writes a t bs buf .board)
   unfolding handed writes refuse
   left-writes true bs buf = h
   left-writes false bs buf = h
 
+-- what a board that stands holds is sound
 sound-of : (b : HeldBoard) → Stands b → (j : Job) (p : Plan) → boardOf b ≡ holding j p → Sound j p
 sound-of b holds-none j p e = let f : empty ≡ holding j p = sym at-first ∙ e in let z : _≡_ {A = ℕ} 0 1 = cc in absurd (omega arith)
 sound-of b (holds-both i q s) j p e =
@@ -188,9 +209,11 @@ sound-of b (holds-both i q s) j p e =
     let y : q ≡ p = cc in
     rw (← x, ← y) s
 
+-- the job and plan that a board holds are sound, where it stands
 pub board-sound : (b : HeldBoard) → Stands b → (j : Job) (p : Plan) → boardOf b ≡ holding j p → Sound j p
 board-sound = sound-of
 
+-- the board that any call hands back by the rules, on one that stands, stands and holds what they say
 left-step : (b : HeldBoard) (a : Board) → Holds b a → (c : Call) → Holds (handed b (step a c .reply) (step a c .board)) (step a c .board)
 unfolding step handed refuse
 left-step b a h (loads bs) = loaded a h

@@ -1,4 +1,4 @@
-// What the rectangle of a vertex is called, and its tint: vertices 0 to 3 are the sides of the frame.
+// What the rectangle of a vertex is called, and the colour of its tint: vertices 0 to 3 are the sides of the frame.
 use crate::pen;
 use drawing::Rect;
 
@@ -49,25 +49,26 @@ pub fn title(r: Rect) {
     pen::word(b"</title>");
 }
 
-// The tint of a room: one of six pale ones by its number, so that neighbours mostly differ.
-fn room_tint(v: usize) {
-    match v % 6 {
+// A tint of a room. Six are enough for every floor (tints.rt); white stands in for a seventh.
+fn room_tint(tint: u8) {
+    match tint {
         0 => pen::word(b"#fff3d1"),
         1 => pen::word(b"#dcebfa"),
         2 => pen::word(b"#e0f2dc"),
         3 => pen::word(b"#fae1dd"),
         4 => pen::word(b"#eae2f6"),
-        _ => pen::word(b"#d9f1ee"),
+        5 => pen::word(b"#d9f1ee"),
+        _ => pen::word(b"#ffffff"),
     }
 }
 
 // The tint of a vertex, as an attribute: grey for the frame.
-pub fn tint(v: usize) {
+pub fn tint(v: usize, tint: u8) {
     pen::word(b" fill=\"");
     if v < 4 {
         pen::word(b"#dcdcdc");
     } else {
-        room_tint(v);
+        room_tint(tint);
     }
     pen::word(b"\"");
 }

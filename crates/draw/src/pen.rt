@@ -10,6 +10,15 @@ pub fn number(n: usize) {
     io::print_decimal(1, n as u64);
 }
 
+// A number of tenths, as a decimal.
+pub fn tenths(n: usize) {
+    number(n / 10);
+    if n % 10 != 0 {
+        word(b".");
+        number(n % 10);
+    }
+}
+
 // An attribute: its name and a number.
 pub fn attribute(name: &[u8], n: usize) {
     word(b" ");

@@ -3,6 +3,7 @@ ghost use Prim.Native.Nat.{_≤_};
 use crate::names;
 use crate::pen;
 use crate::place;
+use crate::place::Sheet;
 use drawing::Plan;
 use drawing::Rect;
 
@@ -13,18 +14,18 @@ pub enum Layer {
 }
 
 // Where a rectangle stands, as attributes.
-fn edges(height: u16, r: Rect) {
-    pen::attribute(b"x", place::across(r.x1));
-    pen::attribute(b"y", place::down(height, r.y2));
-    pen::attribute(b"width", place::span(r.x1, r.x2));
-    pen::attribute(b"height", place::span(r.y1, r.y2));
+fn edges(sheet: Sheet, r: Rect) {
+    pen::attribute(b"x", place::across(sheet, r.x1));
+    pen::attribute(b"y", place::down(sheet, r.y2));
+    pen::attribute(b"width", place::span(sheet, r.x1, r.x2));
+    pen::attribute(b"height", place::span(sheet, r.y1, r.y2));
 }
 
 // The ground of a rectangle.
-fn ground(height: u16, r: Rect) {
+fn ground(sheet: Sheet, r: Rect, tint: u8) {
     pen::word(b"<rect");
-    edges(height, r);
-    names::tint(r.vertex);
+    edges(sheet, r);
+    names::tint(r.vertex, tint);
     pen::word(b"/>\n");
 }
 
@@ -36,38 +37,44 @@ fn lesser(a: usize, b: usize) -> usize {
     b
 }
 
-// The size of a rectangle's number by its shorter side: two digits fit into a single cell, and none grows past three cells.
-fn size_of(r: Rect) -> usize
+// The size of a rectangle's number by its shorter side: two digits fit across it.
+fn size_of(sheet: Sheet, r: Rect) -> usize
     ensures { λ size. ⌜ size ≤ 28 ⌝ }
 {
-    let side = lesser(place::span(r.x1, r.x2), place::span(r.y1, r.y2));
-    if side <= 20 {
+    let side = lesser(
+        place::span(sheet, r.x1, r.x2),
+        place::span(sheet, r.y1, r.y2),
+    );
+    if side < 24 {
         return 12;
     }
-    if side <= 40 {
+    if side < 40 {
+        return 14;
+    }
+    if side < 60 {
         return 20;
     }
     28
 }
 
 // A plate of the rectangle's tint under its number, so that no line of the grid strikes it through; a cell wide at least.
-fn plate(height: u16, r: Rect) {
-    let size = size_of(r);
+fn plate(sheet: Sheet, r: Rect, tint: u8) {
+    let size = size_of(sheet, r);
     let half = size / 2 + 4;
     pen::word(b"<rect");
-    pen::attribute(b"x", place::middle_across(r.x1, r.x2) - half);
-    pen::attribute(b"y", place::middle_down(height, r.y1, r.y2) - size / 2);
+    pen::attribute(b"x", place::middle_across(sheet, r.x1, r.x2) - half);
+    pen::attribute(b"y", place::middle_down(sheet, r.y1, r.y2) - size / 2);
     pen::attribute(b"width", 2 * half);
     pen::attribute(b"height", size);
-    names::tint(r.vertex);
+    names::tint(r.vertex, tint);
     pen::word(b"/>");
 }
 
 // The number of a room or the letter of a side, in the middle of its rectangle.
-fn label(height: u16, r: Rect) {
-    let x = place::middle_across(r.x1, r.x2);
-    let y = place::middle_down(height, r.y1, r.y2);
-    pen::open_text(x, y, size_of(r));
+fn label(sheet: Sheet, r: Rect) {
+    let x = place::middle_across(sheet, r.x1, r.x2);
+    let y = place::middle_down(sheet, r.y1, r.y2);
+    pen::open_text(x, y, size_of(sheet, r));
     names::weight(r.vertex);
     pen::word(b">");
     names::short(r.vertex);
@@ -75,34 +82,43 @@ fn label(height: u16, r: Rect) {
 }
 
 // The walls of a rectangle and its label, in one group under its full name.
-fn outline(height: u16, r: Rect) {
+fn outline(sheet: Sheet, r: Rect, tint: u8) {
     pen::word(b"<g>");
     names::title(r);
-    plate(height, r);
+    plate(sheet, r, tint);
     pen::word(b"<rect");
-    edges(height, r);
+    edges(sheet, r);
     pen::word(b" fill=\"none\" stroke=\"#222222\" stroke-width=\"2\" pointer-events=\"all\"/>");
-    label(height, r);
+    label(sheet, r);
     pen::word(b"</g>\n");
 }
 
 // One layer of the rectangle of a vertex.
-fn paint(layer: Layer, height: u16, r: Rect) {
+fn paint(layer: Layer, sheet: Sheet, r: Rect, tint: u8) {
     match layer {
-        Layer::Ground => ground(height, r),
-        Layer::Outline => outline(height, r),
+        Layer::Ground => ground(sheet, r, tint),
+        Layer::Outline => outline(sheet, r, tint),
     }
 }
 
+// The tint of a vertex.
+fn tint_of(tints: &[u8; 64], v: usize) -> u8 {
+    if v < 64 {
+        return tints[v];
+    }
+    0
+}
+
 // One layer of all rectangles.
-pub fn paint_all(layer: Layer, plan: Plan) {
+pub fn paint_all(layer: Layer, sheet: Sheet, plan: Plan, tints: &[u8; 64]) {
     let many = fields::wide(plan.rooms) + 4;
     let mut v: usize = 0;
     while v < many {
         paint(
             layer,
-            plan.height,
+            sheet,
             drawing::rectangle(&plan.rects, plan.rooms, v),
+            tint_of(tints, v),
         );
         v += 1;
     }

@@ -39,6 +39,7 @@ same-answer Drawn (Refused k) j p x e f = not-held (f ∙ sym e)
 same-answer (Refused k) Drawn j p x e f = not-held (e ∙ sym f)
 same-answer (Refused k) (Refused l) j p x e f = let n : k ≡ l = one-number (e ∙ sym f) in cc
 
+-- drawings with the same answer and the same plan are one
 same-fields : (a b : Said) (p q : HeldPlan) → a ≡ b → p ≡ q → _≡_ {A = Drawing} (record { answer = a; plan = p }) (record { answer = b; plan = q })
 same-fields a b p q e f = rw (e, f)
 

@@ -34,6 +34,7 @@ use Rattle.drawing.specs.Drawn.{drawnAny, walledBy, walled, frame, planB
 
 -- ---- what is held of a plan gives it back
 
+-- a rectangle with the vertex and the four numbers of r is r
 same-rect : (r : Rect) (v a b c d : ℕ) → v ≡ r .vertex → a ≡ r .x1 → b ≡ r .y1 → c ≡ r .x2 → d ≡ r .y2
     → record { vertex = v; x1 = a; y1 = b; x2 = c; y2 = d } ≡ r
 same-rect r v a b c d ev ea eb ec ed = rw (ev, ea, eb, ec, ed)
@@ -42,6 +43,7 @@ same-rect r v a b c d ev ea eb ec ed = rw (ev, ea, eb, ec, ed)
 abbrev fourOf : Rect → List ℕ
 fourOf r = r .x1 ∷ r .y1 ∷ r .x2 ∷ r .y2 ∷ []
 
+-- the four numbers of v's rectangle, behind four for each vertex before v, are read back as that rectangle
 first-back : (r : Rect) (a t : List ℕ) (v : ℕ) → length a ≡ 4 * v → r .vertex ≡ v → rectAt (a ++ (fourOf r ++ t)) v ≡ r
 unfolding rectAt
 first-back r a t v l e =
@@ -55,6 +57,7 @@ first-back r a t v l e =
     (rw e₂ (getD-append-add a (fourOf r ++ t) 2 0))
     (rw e₃ (getD-append-add a (fourOf r ++ t) 3 0))
 
+-- so are the numbers of rectangles that stand in vertex order from v on
 rects-back : (rs : List Rect) (a t : List ℕ) (v : ℕ) → length a ≡ 4 * v → ((i : ℕ) → i < length rs → getD rs i nowhere .vertex ≡ v + i)
     → rectsIn (length rs) v (a ++ (flat rs ++ t)) ≡ rs
 unfolding rectsIn flat
@@ -69,11 +72,13 @@ rects-back (r ∷ rs) a t v l o =
     ∙ ap (λ (x : List ℕ). r ∷ rectsIn (length rs) (suc v) x) move
     ∙ ap (λ (x : List Rect). r ∷ x) later
 
+-- four numbers for each rectangle
 length-flat : (rs : List Rect) → length (flat rs) ≡ 4 * length rs
 unfolding flat
 length-flat [] = refl
 length-flat (r ∷ rs) = omega (arith, length-flat rs)
 
+-- the rectangle of v names the vertex that the rectangle at place v names
 of-vertex : (p : Plan) (v : ℕ) → rectOf p v .vertex ≡ getD (p .rects) v nowhere .vertex
 unfolding rectOf
 of-vertex p v = refl
@@ -93,12 +98,14 @@ held-back j p c h =
 
 -- ---- the plan by the numbers of walls is the plan by wall numbers
 
+-- two ways to a rectangle that agree on every vertex below u + n give the same n rectangles from u on
 map-same : (f g : ℕ → Rect) (u n : ℕ) → ((v : ℕ) → v < u + n → f v ≡ g v) → map f (upFrom u n) ≡ map g (upFrom u n)
 unfolding upFrom
 map-same f g u zero h = refl
 map-same f g u (suc n) h = rw (h u (omega arith), map-same f g (suc u) n (λ v l. h v (omega arith)))
 
 module _ (j : Job) (w : Walls) (f g : ℕ → ℕ) (r : Reads w (length j + 4) f g) where
+  -- a vertex's rectangle by the numbers of the walls on its sides is the one by the wall numbers f and g
   room-same : (v : ℕ) → v < 4 + length j → walled w v ≡ roomRect f g v
   unfolding walledBy roomRect
   room-same v h =
@@ -109,6 +116,7 @@ module _ (j : Job) (w : Walls) (f g : ℕ → ℕ) (r : Reads w (length j + 4) f
       let e₄ : getD (w .levels .0) (high v) 0 ≡ g (high v) = ap (λ (s : Sides). s .upper .0) e in
       rw (e₁, e₂, e₃, e₄)
 
+  -- walls that read as f and g give, on their own sheet, the plan by f and g
   pub plan-same : planOn w (sheetOf w) (length j) ≡ planOf j f g
   unfolding planBy planOf frame rooms
   plan-same =
@@ -118,13 +126,16 @@ module _ (j : Job) (w : Walls) (f g : ℕ → ℕ) (r : Reads w (length j + 4) f
 
 -- ---- the answers
 
+-- a drawing that says refusal k and keeps no plan tells of an answer that is refusal k
 refuses : (r : Drawing) (j : Job) (x : Answer) (k : ℕ) → x ≡ refused k → (r .answer ≡ Refused k) × (r .plan ≡ noPlan) → Draws r j x
 unfolding said kept
 refuses r j x k e p = record { says = rw (p .0, e); keeps = rw e (p .1) }
 
+-- numbers that are there are not missing
 not-some : {f : List ℕ} → some f ≡ none → ⊥
 not-some e = let z : _≡_ {A = ℕ} 0 1 = cc in omega arith
 
+-- where either direction has no numbers, the answer is 7
 planned-none : (j : Job) (a b : Option (List ℕ)) → (a ≡ none) ⊎ (b ≡ none) → planned j a b ≡ refused 7
 unfolding planned
 planned-none j none none h = refl
@@ -141,6 +152,7 @@ module _ (j : Job) (w : Walls) (ew : w ≡ wallsOf j) where
       refuses r j (drawnAny j) 7 (planned-none j (numbersIn upright j) (numbersIn level j) (circled j (ap (λ (x : Walls). x .answer) (sym ew) ∙ c))) p
 
   module _ (num : w .answer ≡ Numbered) where
+    -- the walls are numbered: both directions have numbers, and the walls hold them
     c : Counted j (wallsOf j)
     c = counted j (ap (λ (x : Walls). x .answer) (sym ew) ∙ num)
 
@@ -148,10 +160,12 @@ module _ (j : Job) (w : Walls) (ew : w ≡ wallsOf j) where
     abbrev p : Plan
     p = planOf j (at (c .xs)) (at (c .ys))
 
+    -- drawing the job comes to test 9 of that plan
     drawn-tested : drawnAny j ≡ tested j p
     unfolding drawnAny planned
     drawn-tested = rw (c .is-upright, c .is-level)
 
+    -- the job has at most 60 rooms
     few-rooms : length j ≤ 60
     unfolding test2
     few-rooms = leb-true (length j) 60 (and-right (leb 1 (length j)) (leb (length j) 60) (c .rooms))

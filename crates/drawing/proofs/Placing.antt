@@ -49,14 +49,17 @@ module _ (xs ys : List ℕ) where
   abbrev roomsFrom : ℕ → ℕ → List ℕ
   roomsFrom u n = flat (map (walledBy xs ys) (upFrom u n))
 
+  -- a held rectangle that is v's by its walls, put at v's place, is v's four numbers put there
   four-of : (o : List ℕ) (r : HeldRect) (v : ℕ) → rectIn r ≡ walledBy xs ys v
       → putFour o v (r .x1) (r .y1) (r .x2) (r .y2) ≡ sets o (4 * v) (flat (walledBy xs ys v ∷ []))
   unfolding flat rectIn putFour
   four-of o r v e = ap (λ (s : Rect). sets o (4 * v) (s .x1 ∷ s .y1 ∷ s .x2 ∷ s .y2 ∷ [])) e
 
+  -- at the start all the rooms are left to put, from place 16 on
   pub rooms-first : (o : List ℕ) (n : ℕ) → sets o (4 * (4 + 0)) (roomsFrom (4 + 0) (n - 0)) ≡ sets o 16 (roomsFrom 4 n)
   rooms-first o n = let z : n - 0 ≡ n = omega arith in rw z
 
+  -- the next room put, those behind it are left
   pub rooms-more : (o x y : List ℕ) (r : HeldRect) (n i : ℕ) → rectIn r ≡ walledBy xs ys (4 + i)
       → x ≡ putFour o (4 + i) (r .x1) (r .y1) (r .x2) (r .y2) → i < n
       → sets o (4 * (4 + i)) (roomsFrom (4 + i) (n - i)) ≡ y → sets x (4 * (4 + (i + 1))) (roomsFrom (4 + (i + 1)) (n - (i + 1))) ≡ y
@@ -67,21 +70,25 @@ module _ (xs ys : List ℕ) where
       let k : 4 * suc (4 + i) ≡ suc (suc (suc (suc (4 * (4 + i))))) = omega arith in
       rw (ex ∙ four-of o r (4 + i) e, s, k) (rw d at inv)
 
+  -- behind the last room nothing is left to put
   pub rooms-done : (o y : List ℕ) (n i : ℕ) → n ≤ i → sets o (4 * (4 + i)) (roomsFrom (4 + i) (n - i)) ≡ y → o ≡ y
   unfolding flat upFrom
   rooms-done o y n i h inv =
       let d : n - i ≡ 0 = omega arith in
       rw d at inv
 
+-- the numbers of rectangles before rectangles are those of the first, then those of the others
 flat-append : (a b : List Rect) → flat (a ++ b) ≡ flat a ++ flat b
 unfolding flat
 flat-append [] b = refl
 flat-append (r ∷ a) b = rw (flat-append a b)
 
+-- the frame has four sides
 frame-sides : (w h : ℕ) → length (frame w h) ≡ 4
 unfolding frame
 frame-sides w h = refl
 
+-- they have sixteen numbers
 frame-numbers : (w h : ℕ) → 0 + length (flat (frame w h)) ≡ 16
 unfolding frame flat
 frame-numbers w h = refl

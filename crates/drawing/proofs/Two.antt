@@ -17,14 +17,17 @@ use Rattle.drawing.specs.Tests.{insideSheet, away, pairOk}
 
 -- two stretches
 module _ (a b c d : ℕ) where
+  -- the smaller end less the larger start is how far they reach over one another
   pub reach : (x y n : ℕ) → x ≡ max a c → y ≡ min b d → n ≡ y - x → n ≡ overlap a b c d
   unfolding overlap
   reach x y n ex ey e = rw (← ex, ← ey) e
 
+  -- they touch where the first ends at the start of the second
   pub abut-first : b ≡ c → true ≡ abut a b c d
   unfolding abut
   abut-first e = rw (eq-eqb b c e)
 
+  -- else they touch exactly if the second ends at the start of the first
   pub abut-second : (b ≡ c → ⊥) → eqb d a ≡ abut a b c d
   unfolding abut
   abut-second e = rw (ne-eqb b c e)
@@ -39,10 +42,12 @@ module _ (a b c d : ℕ) where
       go false e true f t = let g : d ≡ a = eqb-true d a f in omega arith
       go false e false f t = let z : _≡_ {A = ℕ} 0 1 = cc in absurd (omega arith)
 
+  -- two that reach over one another by at least 1 are not away from one another
   pub away-over : (n : ℕ) → n ≡ overlap a b c d → 1 ≤ n → false ≡ away a b c d
   unfolding away
   away-over n e h = rw (← e, ne-eqb n 0 (λ z. omega arith))
 
+  -- two that reach over one another by nothing are away exactly if they do not touch
   pub away-free : (n : ℕ) (t : Bool) → n ≡ overlap a b c d → n < 1 → t ≡ abut a b c d → not t ≡ away a b c d
   unfolding away
   away-free n t e h f =
@@ -51,9 +56,11 @@ module _ (a b c d : ℕ) where
 
 -- a product of two numbers of two bytes
 module _ (m n : ℕ) (h : m < 65536) (k : n < 65536) where
+  -- it is a number of four bytes
   pub product : m * n < 4294967296
   product = lt-of-le-of-lt (mul-le-mul {n₂ = 65535} {m₂ = 65535} (omega arith) (omega arith)) (lit< tt)
 
+  -- it fits a word
   pub product-fits : Fits w64 (m * n)
   product-fits = omega (arith, product)
 
@@ -69,41 +76,51 @@ module _ (r s : HeldRect) where
   abbrev across : ℕ
   across = overlap (r .x1) (r .x2) (s .x1) (s .x2)
 
+  -- how far they reach over one another upward
   abbrev upward : ℕ
   upward = overlap (r .y1) (r .y2) (s .y1) (s .y2)
 
+  -- whether they touch end to end across
   abbrev beside : Bool
   beside = abut (r .x1) (r .x2) (s .x1) (s .x2)
 
+  -- whether they touch end to end upward
   abbrev above : Bool
   above = abut (r .y1) (r .y2) (s .y1) (s .y2)
 
+  -- two that reach over one another across by nothing share no cell
   pub apart-across : (n : ℕ) → n ≡ across → n ≡ 0 → true ≡ apart (rectIn r) (rectIn s)
   unfolding apart rectIn
   apart-across n e z = rw (← e, eq-eqb n 0 z)
 
+  -- else they share no cell exactly if they reach over one another upward by nothing
   pub apart-upward : (n m : ℕ) → n ≡ across → (n ≡ 0 → ⊥) → m ≡ upward → eqb m 0 ≡ apart (rectIn r) (rectIn s)
   unfolding apart rectIn
   apart-upward n m e z f = rw (← e, ← f, ne-eqb n 0 z)
 
+  -- two that touch across share a wall exactly if they reach over one another upward by at least 1
   pub share-beside : (b : Bool) (n : ℕ) → b ≡ beside → b ≡ true → n ≡ upward → leb 1 n ≡ share (rectIn r) (rectIn s)
   unfolding share rectIn
   share-beside b n e t f =
       let g : beside ≡ true = sym e ∙ t in
       rw (g, abut-reach (r .x1) (r .x2) (s .x1) (s .x2) g, ← f) (or-nothing (leb 1 n) above)
 
+  -- two that touch upward only share a wall exactly if they reach over one another across by at least 1
   pub share-above : (b t : Bool) (n : ℕ) → b ≡ beside → b ≡ false → t ≡ above → t ≡ true → n ≡ across → leb 1 n ≡ share (rectIn r) (rectIn s)
   unfolding share rectIn
   share-above b t n e z f y g = rw (← e, ← f, z, y, ← g)
 
+  -- two that touch in neither direction share no wall
   pub share-no : (b t : Bool) → b ≡ beside → b ≡ false → t ≡ above → t ≡ false → false ≡ share (rectIn r) (rectIn s)
   unfolding share rectIn
   share-no b t e z f y = rw (← e, ← f, z, y)
 
+  -- two that touch across meet only at a corner exactly if they touch upward too
   pub corner-beside : (b t : Bool) → b ≡ beside → b ≡ true → t ≡ above → t ≡ corner (rectIn r) (rectIn s)
   unfolding corner rectIn
   corner-beside b t e y f = rw (← e, ← f, y)
 
+  -- two that do not touch across do not meet only at a corner
   pub corner-no : (b : Bool) → b ≡ beside → b ≡ false → false ≡ corner (rectIn r) (rectIn s)
   unfolding corner rectIn
   corner-no b e z = rw (← e, z)
@@ -113,14 +130,17 @@ module _ (r s : HeldRect) where
   unfolding follows rectIn
   follows-0 k e = rw e
 
+  -- of kind 1: the second comes next exactly if its y1 is the smaller
   pub follows-1 : (k : ℕ) → k ≡ 1 → ltb (s .y1) (r .y1) ≡ follows k (rectIn r) (rectIn s)
   unfolding follows rectIn
   follows-1 k e = rw e
 
+  -- of kind 2: the second comes next exactly if its x1 is the larger
   pub follows-2 : (k : ℕ) → k ≡ 2 → ltb (r .x1) (s .x1) ≡ follows k (rectIn r) (rectIn s)
   unfolding follows rectIn
   follows-2 k e = rw e
 
+  -- of kind 3 or any other: the second comes next exactly if its y1 is the larger
   pub follows-other : (k : ℕ) → (k ≡ 0 → ⊥) → (k ≡ 1 → ⊥) → (k ≡ 2 → ⊥) → ltb (r .y1) (s .y1) ≡ follows k (rectIn r) (rectIn s)
   unfolding follows rectIn
   follows-other zero a b c = absurd (a refl)
@@ -130,58 +150,71 @@ module _ (r s : HeldRect) where
 
 -- one rectangle
 module _ (r : HeldRect) where
+  -- its width times its height is its area
   pub area-of : (x y m n : ℕ) → m ≡ x → x ≡ r .x2 - r .x1 → n ≡ y → y ≡ r .y2 - r .y1 → m * n ≡ area (rectIn r)
   unfolding area rectIn
   area-of x y m n em ex en ey = rw (em, ex, en, ey)
 
   module _ (w h : ℕ) where
+    -- one without width is not inside a sheet
     pub inside-thin : r .x2 ≤ r .x1 → false ≡ insideSheet w h (rectIn r)
     unfolding insideSheet rectIn
     inside-thin a = rw (le-ltb (r .x1) (r .x2) a)
 
+    -- one without height is not inside
     pub inside-low : r .x1 < r .x2 → r .y2 ≤ r .y1 → false ≡ insideSheet w h (rectIn r)
     unfolding insideSheet rectIn
     inside-low a b = rw (lt-ltb (r .x1) (r .x2) a, le-ltb (r .y1) (r .y2) b)
 
+    -- one that ends east of the sheet is not inside
     pub inside-wide : r .x1 < r .x2 → r .y1 < r .y2 → w < r .x2 → false ≡ insideSheet w h (rectIn r)
     unfolding insideSheet rectIn
     inside-wide a b c = rw (lt-ltb (r .x1) (r .x2) a, lt-ltb (r .y1) (r .y2) b, lt-leb (r .x2) w c)
 
+    -- any other is inside exactly if it does not end north of the sheet
     pub inside-high : r .x1 < r .x2 → r .y1 < r .y2 → r .x2 ≤ w → leb (r .y2) h ≡ insideSheet w h (rectIn r)
     unfolding insideSheet rectIn
     inside-high a b c = rw (lt-ltb (r .x1) (r .x2) a, lt-ltb (r .y1) (r .y2) b, le-leb (r .x2) w c)
 
 -- two vertices
 module _ (u v : ℕ) where
+  -- after a room no side of the frame comes next
   pub side-none : 4 ≤ u → false ≡ nextSide u v
   unfolding nextSide
   side-none h = rw (le-ltb u 4 h)
 
+  -- after a side of the frame v comes next exactly if it is one more, and 0 after 3
   pub side-next : u < 4 → eqb v ((u + 1) % 4) ≡ nextSide u v
   unfolding nextSide
   side-next h = rw (lt-ltb u 4 h)
 
   module _ (j : Job) (a : Bool) (ea : a ≡ names (starOf j u) v) where
+    -- they are joined where the star of u names v
     pub joined-names : a ≡ true → true ≡ joined j u v
     unfolding joined
     joined-names t = rw (← ea, t)
 
+    -- they are joined where the star of v names u
     pub joined-named : (b : Bool) → a ≡ false → b ≡ names (starOf j v) u → b ≡ true → true ≡ joined j u v
     unfolding joined
     joined-named b z eb t = rw (← ea, z, ← eb, t)
 
+    -- they are joined where v is the next side of the frame after u
     pub joined-next : (b c : Bool) → a ≡ false → b ≡ names (starOf j v) u → b ≡ false → c ≡ nextSide u v → c ≡ true → true ≡ joined j u v
     unfolding joined
     joined-next b c z eb y ec t = rw (← ea, z, ← eb, y, ← ec, t)
 
+    -- else they are joined exactly if u is the next side of the frame after v
     pub joined-last : (b c d : Bool) → a ≡ false → b ≡ names (starOf j v) u → b ≡ false → c ≡ nextSide u v → c ≡ false → d ≡ nextSide v u → d ≡ joined j u v
     unfolding joined
     joined-last b c d z eb y ec x ed = rw (← ea, z, ← eb, y, ← ec, x) ed
 
+-- a test and one that fails do not both pass
 and-false : (a : Bool) → false ≡ (a && false)
 and-false true = refl
 and-false false = refl
 
+-- a test and one that passes both pass exactly if the test does
 and-true : (a : Bool) → a ≡ (a && true)
 and-true true = refl
 and-true false = refl
@@ -198,6 +231,7 @@ far-across true y false false w e = refl
 far-across true y true b w e = no-false e
 far-across false y a b w e = no-false e
 
+-- nor anything, where they lie away from one another upward
 far-upward : (x y a b w : Bool) → (y && not b) ≡ true → true ≡ asked x y a b w
 unfolding asked
 far-upward true true true false w e = refl
@@ -236,26 +270,31 @@ some-reach zero = refl
 some-reach (suc m) = rw (le-leb 1 (suc m) (omega arith), ne-eqb (suc m) 0 (λ e. omega arith))
 
 module _ (j : Job) (r s : HeldRect) where
+  -- all that is asked of two rectangles, by how they reach over one another, touch and are joined
   pair-is : pairOk j (rectIn r) (rectIn s)
       ≡ asked (eqb (across r s) 0) (eqb (upward r s) 0) (beside r s) (above r s) (joined j (r .vertex) (s .vertex))
   unfolding pairOk apart sharesJoined share corner rectIn asked
   pair-is = rw (some-reach (across r s), some-reach (upward r s))
 
   module _ (p : Bool) (ep : p ≡ away (r .x1) (r .x2) (s .x1) (s .x2)) where
+    -- two that lie away from one another across pass
     pub pair-far-across : p ≡ true → true ≡ pairOk j (rectIn r) (rectIn s)
     unfolding away
     pair-far-across t = far-across _ _ _ _ _ (sym ep ∙ t) ∙ sym pair-is
 
     module _ (q : Bool) (tp : p ≡ false) (eq : q ≡ away (r .y1) (r .y2) (s .y1) (s .y2)) where
+      -- two that lie away from one another upward pass
       pub pair-far-upward : q ≡ true → true ≡ pairOk j (rectIn r) (rectIn s)
       unfolding away
       pair-far-upward t = far-upward _ _ _ _ _ (sym eq ∙ t) ∙ sym pair-is
 
       module _ (a b : Bool) (tq : q ≡ false) (ea : a ≡ beside r s) (eb : b ≡ above r s) where
+        -- two others fail where they touch in both directions or in neither
         pub pair-same : Bool·beq a b ≡ true → false ≡ pairOk j (rectIn r) (rectIn s)
         unfolding away
         pair-same t = near-same _ _ _ _ _ (sym ep ∙ tp) (sym eq ∙ tq) (rw (ea, eb) at t) ∙ sym pair-is
 
+        -- two that touch in one direction only pass exactly if they are joined
         pub pair-wall : (w : Bool) → Bool·beq a b ≡ false → w ≡ joined j (r .vertex) (s .vertex) → w ≡ pairOk j (rectIn r) (rectIn s)
         unfolding away
         pair-wall w t e =

@@ -15,6 +15,7 @@ use Rattle.fields.specs.declared.Written.{Written}
 use Rattle.fields.specs.declared.Written.the-variants.{Wrote, TooShort}
 use Rattle.fields.specs.Writes.{replied, writing}
 
+-- places within some bytes that have the same bytes behind them are one
 rest-length : (s : List ℕ) (e e′ : ℕ) → e ≤ length s → e′ ≤ length s → drop e s ≡ drop e′ s → e ≡ e′
 rest-length s e e′ h h′ q = omega (arith, simp length-drop at (ap (λ (l : List ℕ). length l) q))
 
@@ -32,6 +33,7 @@ one-field s at (Whole t x y) (Whole u v w) p a q b =
     let end : y ≡ w = rest-length s y w (a .2) (b .2) d in
     cc
 
+-- readers of the same bytes at the same place are one
 same-reader : (s t : RefT (List ℕ)) (a b : ℕ) → s ≡ t → a ≡ b → _≡_ {A = Reader} (record { bytes = s; place = a }) (record { bytes = t; place = b })
 same-reader s t a b p q = rw (p, q)
 
@@ -43,6 +45,7 @@ one-reader s n r t p q = same-reader (r .bytes) (t .bytes) (r .place) (t .place)
 pub one-answer : {A : Type 0} (r t w : A) → r ≡ w → t ≡ w → r ≡ t
 one-answer r t w p q = p ∙ sym q
 
+-- answers to a writing that say the same are one
 same-reply : (a b : Written) (x : Reply) → replied a ≡ x → replied b ≡ x → a ≡ b
 unfolding replied
 same-reply (Wrote n) (Wrote m) x p q = let e : n ≡ m = cc in cc

@@ -13,6 +13,7 @@ use Rattle.fields.specs.declared.Found.{Found}
 use Rattle.fields.specs.declared.Found.the-variants.{Broken, Whole}
 use Rattle.fields.specs.Found.{found, stands, withHead}
 
+-- less than three bytes are no whole field
 read-short : (l : List ℕ) → length l < 3 → broken ≡ readField l
 unfolding readField
 read-short [] h = refl
@@ -34,6 +35,7 @@ module _ (s : List ℕ) (at : ℕ) where
   abbrev behind : List ℕ
   behind = drop (at + 3) s
 
+  -- where a head stands at a place, the field there has its tag and as many bytes as it says, or is broken where so many are not left
   read-head : at + 3 ≤ length s
       → readField (drop at s) ≡ cond (leb word (length behind)) (field (getD s at 0) (take word behind) (drop word behind)) broken
   unfolding readField
@@ -68,28 +70,34 @@ module _ (s : List ℕ) (at : ℕ) where
 abbrev pub tells : Found → List ℕ → ℕ → Type 0
 tells f s at = (found f s ≡ readField (drop at s)) × stands f at (length s)
 
+-- what an answer tells of a place of some bytes, it tells of the same bytes and place by other names
 pub tells-there : (f : Found) (s t : List ℕ) (a b : ℕ) → s ≡ t → a ≡ b → tells f s a → tells f t b
 tells-there f s t a b p q e = rw (p, q) at e
 
 -- what an answer tells of the bytes
 module _ (s : List ℕ) (at : ℕ) (f : Found) where
+  -- where the answer is broken, no whole field stands there
   pub no-field : f ≡ Broken → found f s ≡ readField (drop at s) → readField (drop at s) ≡ broken
   unfolding found
   no-field b e = sym e ∙ rw b
 
   module _ (t a e : ℕ) where
+    -- where the answer is whole, the field there has this tag, this value and these bytes behind it
     pub the-field : f ≡ Whole t a e → found f s ≡ readField (drop at s) → readField (drop at s) ≡ field t (take (e - a) (drop a s)) (drop e s)
     unfolding found
     the-field w q = sym q ∙ rw w
 
+    -- the value starts behind the three bytes of the head
     pub starts : f ≡ Whole t a e → stands f at (length s) → a ≡ at + 3
     unfolding stands
     starts w q = (rw w at q) .0
 
+    -- the value does not end before it starts
     pub in-order : f ≡ Whole t a e → stands f at (length s) → a ≤ e
     unfolding stands
     in-order w q = (rw w at q) .1
 
+    -- the value ends within the bytes
     pub within : f ≡ Whole t a e → stands f at (length s) → e ≤ length s
     unfolding stands
     within w q = (rw w at q) .2
@@ -127,6 +135,7 @@ rest-cases n t h l v r false e =
     let d : suc (suc (suc (length r))) - 0 ≡ suc (suc (suc (length r))) = omega arith in
     rw (d, drop-length r)
 
+-- what follows the first field is the end of the bytes that is as long
 rest-end : (l : List ℕ) → drop (length l - length (restOf (readField l))) l ≡ restOf (readField l)
 unfolding readField restOf
 rest-end [] = refl
@@ -134,11 +143,13 @@ rest-end (t ∷ []) = refl
 rest-end (t ∷ h ∷ []) = refl
 rest-end (t ∷ h ∷ l ∷ r) = rest-cases (256 * h + l) t h l (take (256 * h + l) r) r (leb (256 * h + l) (length r)) refl
 
+-- what follows a field is no longer than what stands behind its head
 rest-cut : (n t : ℕ) (v r : List ℕ) (b : Bool) → length (restOf (cond b (field t v (drop n r)) broken)) ≤ length r
 unfolding restOf
 rest-cut n t v r true = simp length-drop (omega arith)
 rest-cut n t v r false = omega arith
 
+-- what follows the first field is no longer than the bytes
 rest-fits : (l : List ℕ) → length (restOf (readField l)) ≤ length l
 unfolding readField restOf
 rest-fits [] = omega arith
@@ -146,6 +157,7 @@ rest-fits (t ∷ []) = omega arith
 rest-fits (t ∷ h ∷ []) = omega arith
 rest-fits (t ∷ h ∷ l ∷ r) = omega (arith, rest-cut (256 * h + l) t (take (256 * h + l) r) r (leb (256 * h + l) (length r)))
 
+-- what follows the field at any place is the end of the bytes that is as long
 after-cases : (s : List ℕ) (at x : ℕ) (b : Bool) → leb at (length s) ≡ b → x ≡ length s - length (restOf (readField (drop at s)))
     → drop x s ≡ restOf (readField (drop at s))
 unfolding readField restOf

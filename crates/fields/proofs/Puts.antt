@@ -12,6 +12,7 @@ use Rattle.floor.specs.Calls.{refuse, writes}
 use Rattle.fields.specs.declared.Written.the-variants.{Wrote, TooShort}
 use Rattle.fields.specs.Writes.{replied, writing}
 
+-- bytes put at a place and others put behind them are the two put as one
 pub sets-append : (l : List ℕ) (i : ℕ) (xs ys : List ℕ) → sets l i (xs ++ ys) ≡ sets (sets l i xs) (i + length xs) ys
 sets-append l i [] ys = let e : i + 0 ≡ i = omega arith in rw e
 sets-append l i (x ∷ xs) ys =
@@ -20,12 +21,14 @@ sets-append l i (x ∷ xs) ys =
 
 -- a writing refuses, or fills the front
 module _ (bs o : List ℕ) where
+  -- too short a buffer: refused, and the buffer as it was
   pub short-writes : length o < length bs → (replied TooShort ≡ writing bs o .reply) × (o ≡ writing bs o .buffer)
   unfolding replied writing writes refuse
   short-writes k =
       let z : leb (length bs) (length o) ≡ false = lt-leb (length bs) (length o) k in
       (rw z, rw z)
 
+  -- a buffer with room: the length is told, and the front filled
   pub front-writes : (x : List ℕ) (l : ℕ) → l ≡ length bs → x ≡ sets o 0 bs → length bs ≤ length o
       → (replied (Wrote l) ≡ writing bs o .reply) × (x ≡ writing bs o .buffer)
   unfolding replied writing writes

@@ -24,6 +24,7 @@ same-length (x ∷ a) (y ∷ b) h = rw (← same-length a b (λ e. h (ap suc e))
 
 -- the numbers, one by one
 module _ (a b : List ℕ) (i : ℕ) (w : Bool) (l : length a ≡ length b) where
+  -- from a place on the two are the same exactly if the numbers there are, and those behind them
   next : i < length a → sameNumbers (drop i a) (drop i b) ≡ (eqb (getD a i 0) (getD b i 0) && sameNumbers (drop (i + 1) a) (drop (i + 1) b))
   unfolding sameNumbers
   next h =

@@ -9,21 +9,20 @@ use lib.ListN.{length}
 use borrow.Author.Tests.{ne-eqb}
 use Rattle.floor.specs.Lists.Laws.{same-test}
 use Rattle.floor.specs.Fields.{Bytes}
-use Rattle.floor.specs.Jobs.{Job, Vertex, writeJob}
-use Rattle.floor.specs.Jobs.Facts.{Passes}
+use Rattle.floor.specs.Jobs.{Job, Vertex, Labelling, writeJob}
+use Rattle.floor.specs.Jobs.Facts.{labelling-passes}
 use Rattle.floor.specs.Walls.{Circle, upright, level, rules, at, jobNumbers}
-use Rattle.floor.specs.Plans.{Plan, rectOf, share, planOf, joined, refused, held, test8, drawn}
+use Rattle.floor.specs.Plans.{Plan, rectOf, share, planOf, joined, refused, held, test8, drawn, Numbered}
 use Rattle.floor.specs.Plans.Held.{seven, nine, width-bound, height-bound}
 use Rattle.floor.specs.Floor.{Shares, Joined, Floor}
 use Rattle.floor.specs.Floor.Joins.{joined-of, of-joined}
 use Rattle.floor.specs.Floor.Draws.{shares-of, of-shares}
-use Rattle.floor.specs.Turns.{turn}
-use Rattle.floor.specs.Turns.Turned.{Kept}
-use Rattle.floor.specs.Turns.Restore.{Turnable, turnedBy, turned-keeps}
-use Rattle.floor.specs.Calls.{load, Board, empty, holding, Call, loads, turns, refusal, done, lent, sharing, step, run}
+use Rattle.floor.specs.Turns.{turn, Kept, Turnable, turnedBy}
+use Rattle.floor.specs.Turns.Restore.{turned-keeps}
+use Rattle.floor.specs.Calls.{load, Board, empty, holding, Call, loads, turns, refusal, done, lent, sharing, step, run, Accepted, Answers, Left, Restored, Turned}
 use Rattle.floor.specs.Calls.Sound.{Sound, some-room, sound-good, any-calls-sound}
-use Rattle.floor.specs.Calls.Effects.{Left, refused-leaves, write-load, load-write, Restored, turn-turn}
-use Rattle.floor.specs.Calls.Exact.{Numbered, drawn-numbered, Accepted, accepted, Answers, load-answers, Turned, turned-exactly}
+use Rattle.floor.specs.Calls.Effects.{refused-leaves, write-load, load-write, turn-turn}
+use Rattle.floor.specs.Calls.Exact.{drawn-numbered, accepted, load-answers, turned-exactly}
 
 -- DEMAND 1. Every job, however damaged or contradictory, gets an answer: a plan or one numbered refusal.
 pub every-job-answered : (bs : List ℕ) → Answers 1 9 (load bs)
@@ -38,8 +37,8 @@ pub accepted-exactly : (bs : List ℕ) (j : Job) (p : Plan) → (load bs ≡ hel
 accepted-exactly = accepted
 
 -- Walls run in a circle exactly if no whole numbers can be put on them that respect every "before".
-pub circle-exactly : (j : Job) → Passes j → (drawn j ≡ refused 7) ↔ (Circle (rules upright j) ⊎ Circle (rules level j))
-circle-exactly = seven
+pub circle-exactly : (j : Job) → Labelling j → (drawn j ≡ refused 7) ↔ (Circle (rules upright j) ⊎ Circle (rules level j))
+circle-exactly j l = seven j (labelling-passes j l)
 
 -- A turn is accepted exactly when the written rules allow it; it then changes the kind of that one contact, and the plan is numbered afresh.
 pub turn-accepted-exactly : (cs : List Call) (j : Job) (p : Plan) → run empty cs ≡ holding j p
@@ -89,9 +88,9 @@ any-calls-share cs j p h u v hu hv ne = rw (ne-eqb u v ne) (same-test (share (re
     back e = of-shares (rectOf p u) (rectOf p v) (same .1 (joined-of j u v e))
 
 -- A job that has passed every earlier test is refused as undrawable exactly when its numbered rectangles break one of these.
-pub undrawable-exactly : (j : Job) → Passes j → 0 < length j → (f g : List ℕ) → jobNumbers upright j ≡ some f → jobNumbers level j ≡ some g
+pub undrawable-exactly : (j : Job) → Labelling j → 0 < length j → (f g : List ℕ) → jobNumbers upright j ≡ some f → jobNumbers level j ≡ some g
     → test8 (planOf j (at f) (at g)) ≡ true → (drawn j ≡ refused 9) ↔ (Floor j (planOf j (at f) (at g)) → ⊥)
-undrawable-exactly j ok h = nine j ok h
+undrawable-exactly j l h = nine j (labelling-passes j l) h
 
 -- A turned labelling passes tests 4 to 6, has as many rooms and pairs, and joins the same pairs;
 pub turned-labelling : (cs : List Call) (j : Job) (p : Plan) → run empty cs ≡ holding j p → (u v : ℕ) (t : Turnable j u v) → Kept j (turnedBy t)
@@ -103,7 +102,7 @@ pub turned-undrawable-exactly : (cs : List Call) (j : Job) (p : Plan) → run em
     → (drawn (turnedBy t) ≡ refused 9) ↔ (Floor (turnedBy t) (planOf (turnedBy t) (at f) (at g)) → ⊥)
 turned-undrawable-exactly cs j p h u v t =
     let k : Kept j (turnedBy t) = turned-labelling cs j p h u v t in
-    nine (turnedBy t) (k .passes) (rw (k .rooms) (some-room j p (any-calls-sound cs j p h)))
+    nine (turnedBy t) (labelling-passes (turnedBy t) (k .labelling)) (rw (k .rooms) (some-room j p (any-calls-sound cs j p h)))
 
 -- An accepted turn made again at once, with no other call that changes the plan between, is accepted and gives back the plan before it, whichever of the
 -- two numbers is named first.

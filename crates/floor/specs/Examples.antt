@@ -146,6 +146,7 @@ right r =
     let s : Step = step (run empty (r .before)) (r .last) in
     sameNumbers (told (s .reply) (s .board) (s .buffer)) (r .shows)
 
+-- THE TABLE: P1 to P12, then questions, writings and refusals
 pub table : List Row
 table =
     -- P1

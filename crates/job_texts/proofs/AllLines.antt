@@ -49,16 +49,20 @@ first-line (b ∷ t) = go (eqb b 10) (first-line t)
         (lines-behind 1 (suc (place 10 t)) (b ∷ t) (omega arith) ∙ ap (λ (k : ℕ). linesFrom k (b ∷ t)) z))
 
 module _ (s : List ℕ) (at e : ℕ) (q : e ≡ at + place 10 (drop at s)) (l : at ≤ length s) where
+  -- a line's end does not stand before its start
   pub end-behind : at ≤ e
   end-behind = omega arith
 
+  -- a line's end stands within the text
   pub end-within : e ≤ length s
   end-within = omega (arith, place-short 10 (drop at s), length-drop at s)
 
+  -- from a place within a text its lines are those of what stands there and behind
   all-here : linesFrom at s ≡ lines (drop at s)
   unfolding linesFrom
   all-here = rw (le-leb at (length s) l)
 
+  -- from a place within a text its lines are the one there, up to its end, and those behind it
   line-here : linesFrom at s ≡ take (e - at) (drop at s) ∷ linesFrom (e + 1) s
   line-here =
       let z : e - at ≡ place 10 (drop at s) = omega arith in
@@ -71,11 +75,13 @@ afterLine : ℕ → List (List ℕ) → Put → Kept
 afterLine i ls (bad x) = wrongAt i x
 afterLine i ls (good m h) = onLines h m i ls
 
+-- a star in front of what is left of a text is put, and then the rest is
 finish-star : (h : Stars) (m : ℕ) (s : Star) (x : TextRead) → finish h m (behindStar s x) ≡ finish (putStar h m s) (m + length s) x
 unfolding finish behindStar putAll
 finish-star h m s (wrongLine i x) = refl
 finish-star h m s (aJob j) = refl
 
+-- some lines put behind held stars: the first of them, then the others
 line-put : (h : Stars) (m i : ℕ) (l : List ℕ) (ls : List (List ℕ)) → onLines h m i (l ∷ ls) ≡ afterLine (i + 1) ls (onLine h m (skip (uncommented l)))
 unfolding onLines onLine readLines taken finish putLine putStar afterLine
 line-put h m i l ls = go (nothing t) (roomLine (360 - m) (4 + h .count) t)

@@ -50,6 +50,7 @@ module _ (ends nbr kind : List ℕ) (n i : ℕ) (w : Bool) where
   unfolding all
   stars-done h inv = rw (held-done ends nbr kind n i h) at inv
 
+-- the test of the kinds, star by star, is the test of the job that the stars hold
 pub sided-stars : (h : Stars) (n : ℕ) → n ≡ h .count → all starSided (jobIn (n - 0) (h .ends) (h .nbr) (h .kind)) ≡ sided (jobOf h)
 unfolding sided starSided jobOf
 sided-stars h n e = let z : n - 0 ≡ h .count = omega arith in rw z

@@ -23,11 +23,13 @@ abbrev Few : ℕ → Line → Type 0
 Few left (lacks x) = numberIn x ≤ 64
 Few left (star s) = (length s ≤ left) × (small s ≡ true)
 
+-- a contact with a byte as its neighbour in front of others makes one more, within one more left
 few-behind : (left : ℕ) (e : Entry) (l : Line) → ltb (e .to) 256 ≡ true → Few left l → Few (suc left) (behindContact e l)
 unfolding behindContact all
 few-behind left e (lacks x) t p = p
 few-behind left e (star s) t p = (omega (arith, p .0), rw t (p .1))
 
+-- what follows a contact stays within what the contacts behind the comma stay within
 few-followed : (left : ℕ) (u : List ℕ) (l : Line) → Few left l → Few left (followed u l)
 unfolding followed all numberIn
 few-followed left [] l p = (omega arith, refl)
@@ -42,6 +44,7 @@ abbrev ByteSaid : Option ℕ → Type 0
 ByteSaid none = Unit {0}
 ByteSaid (some n) = ltb n 256 ≡ true
 
+-- a number that is kept only as a byte is a byte
 byte-said : (x : Option ℕ) → ByteSaid (aByte x)
 unfolding aByte
 byte-said none = tt
@@ -51,6 +54,7 @@ byte-said (some n) = go (ltb n 256) refl
     go true t = t
     go false t = tt
 
+-- the place of a word among some is a byte, where no more than 256 are counted
 place-said : (i : ℕ) (w : List ℕ) (xs : List (List ℕ)) → i + length xs ≤ 256 → ByteSaid (placeOf i w xs)
 unfolding placeOf
 place-said i w [] h = tt
@@ -60,6 +64,7 @@ place-said i w (x ∷ xs) h = go (sameNumbers w x) (place-said (suc i) w xs (ome
     go true p = lt-ltb i 256 (omega arith)
     go false p = p
 
+-- the vertex that a word says is a byte
 vertex-said : (w : List ℕ) → ByteSaid (vertexOfWord w)
 unfolding vertexOfWord frameWords orElse
 vertex-said w = go (placeOf 0 w frameWords) (place-said 0 w frameWords (omega arith))
@@ -68,6 +73,7 @@ vertex-said w = go (placeOf 0 w frameWords) (place-said 0 w frameWords (omega ar
     go none p = byte-said (numberOf w)
     go (some n) p = p
 
+-- the contacts of a line are no more than are left, and every neighbour a byte
 few-contacts : (left : ℕ) (t : List ℕ) → Few left (contacts left t)
 unfolding contacts contact numberIn
 few-contacts zero t = omega arith
@@ -85,11 +91,13 @@ few-contacts (suc left) t =
     go (some k) none q p = omega arith
     go (some k) (some v) q p = few-behind left (pair v k) (followed u rest) q (few-followed left u rest p)
 
+-- so are the contacts behind a room's colon, if there are any
 few-any : (left : ℕ) (t : List ℕ) → Few left (anyContacts left t)
 unfolding anyContacts all
 few-any left [] = (omega arith, refl)
 few-any left (b ∷ t) = few-contacts left (b ∷ t)
 
+-- so is what stands behind a room's number
 few-number : (left : ℕ) (t : List ℕ) → Few left (behindNumber left t)
 unfolding behindNumber numberIn
 few-number left [] = omega arith
@@ -104,6 +112,7 @@ abbrev Fits : ℕ → ℕ → Line → Type 0
 Fits left r (lacks x) = numberIn x ≤ 64
 Fits left r (star s) = (r ≤ 63) × (length s ≤ left) × (small s ≡ true)
 
+-- the line of a room up to 64 stays within: no star for a room above 63, contacts that are left, neighbours that are bytes
 line-fits : (left r : ℕ) (t : List ℕ) → r ≤ 64 → Fits left r (roomLine left r t)
 unfolding roomLine test2 numberIn
 line-fits left r t h = go (leb 1 (r - 3) && leb (r - 3) 60) refl (says r (numberOf (word t))) (behindNumber left (next t)) (few-number left (next t))
@@ -123,16 +132,19 @@ abbrev pub Within : ℕ → ℕ → ℕ → TextRead → Type 0
 Within top r left (wrongLine k x) = (k ≤ top) × (numberIn x ≤ 64)
 Within top r left (aJob j) = (r + length j ≤ 64) × (pairsIn j ≤ left) × (all small j ≡ true)
 
+-- a star of no more contacts than are left, in front of what stays within the rest, stays within
 within-star : (top r left : ℕ) (s : Star) (x : TextRead) → length s ≤ left → small s ≡ true → Within top (suc r) (left - length s) x
     → Within top r left (behindStar s x)
 unfolding behindStar pairsIn sum all
 within-star top r left s (wrongLine k y) l t p = p
 within-star top r left s (aJob j) l t p = (omega (arith, p .0), omega (arith, p .1), rw t (p .2))
 
+-- what names no line past one line names none past a later one
 within-up : (top top′ r left : ℕ) (x : TextRead) → top ≤ top′ → Within top r left x → Within top′ r left x
 within-up top top′ r left (wrongLine k y) l p = (omega (arith, p .0), p .1)
 within-up top top′ r left (aJob j) l p = p
 
+-- some lines, read, stay within: no wrong line past the last of them, no room above 63, no more contacts than are left
 lines-within : (ls : List (List ℕ)) (i r left : ℕ) → r ≤ 64 → Within (i + length ls) r left (readLines i r left ls)
 unfolding readLines taken numberIn pairsIn sum all
 lines-within [] i r left h = go (eqb r 4)
@@ -154,6 +166,7 @@ lines-within (l ∷ ls) i r left h =
         within-up (suc i + length ls) (i + suc (length ls)) r left (behindStar s rest) (omega arith)
         (within-star (suc i + length ls) r left s rest (p .1) (p .2) (below (suc r) (left - length s) (omega (arith, p .0))))
 
+-- a text has at most one line more than it has bytes
 few-lines : (t : List ℕ) → length (lines t) ≤ length t + 1
 unfolding lines longer
 few-lines [] = omega arith

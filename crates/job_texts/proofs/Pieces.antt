@@ -59,6 +59,7 @@ pub told-wrong : (r : Row) (x : Lack) → r .verdict ≡ Wrong x → rowOf r ≡
 unfolding rowOf toldRow
 told-wrong r x e = rw e
 
+-- a line told right comes to the place behind its entries and the stars with them
 pub told-right : (r : Row) (k : ℕ) (h : Stars) → r .verdict ≡ Right → r .next ≡ k → r .stars ≡ h → rowOf r ≡ good k h
 unfolding rowOf toldRow
 told-right r k h e en es = rw (e, en, es)
@@ -110,5 +111,6 @@ pub count-kept : (h g : Stars) (k v e n : ℕ) → g ≡ putEntry h k v e → h 
 unfolding putEntry
 count-kept h g k v e n eg q = rw eg q
 
+-- as many stars in the row as in those that it tells
 pub count-told : (r : Row) (g : Stars) (n : ℕ) → r .stars ≡ g → g .count ≡ n → r .stars .count ≡ n
 count-told r g n e q = rw e q

@@ -21,6 +21,7 @@ use Rattle.job_texts.specs.Writes.{sideText, moreText}
 pub side-put : (j k : ℕ) {o x : List ℕ} {at r : ℕ} → k ≡ j → Puts o at (sideText j) x r → Puts o at (sideText k) x r
 side-put j k e p = rw e p
 
+-- a number that is no kind has no side: two blanks
 pub side-none : (k : ℕ) → (k ≡ 0 → ⊥) → (k ≡ 1 → ⊥) → (k ≡ 2 → ⊥) → (k ≡ 3 → ⊥) → plain "  " ≡ sideText k
 unfolding sideText sideWord sideWords plain
 side-none k a b c d = let l : length sideWords ≤ k = omega arith in rw (List·getD-eq-default sideWords [] l)
@@ -34,6 +35,7 @@ frame-word (suc (suc zero)) h = refl
 frame-word (suc (suc (suc zero))) h = refl
 frame-word (suc (suc (suc (suc v)))) h = absurd (omega arith)
 
+-- a room is written by its number
 pub number-word : (v : ℕ) → 4 ≤ v → decimal v ≡ vertexWord v
 unfolding vertexWord
 number-word v h = rw (le-ltb v 4 h)
@@ -43,6 +45,7 @@ contact-parts : (v k : ℕ) → sideText k ++ vertexWord v ≡ contactText (pair
 unfolding sideText contactText plain
 contact-parts v k = ap (λ (t : List ℕ). 32 ∷ t) (append-assoc (sideWord k) (32 ∷ []) (vertexWord v))
 
+-- a side put, and a vertex behind it, are a contact put
 pub contact-put : (v k : ℕ) {o x y : List ℕ} {at m r : ℕ} → Puts o at (sideText k) x m → Puts x m (vertexWord v) y r → Puts o at (contactText (pair v k)) y r
 contact-put v k p q = rw contact-parts at (both-puts _ _ _ _ _ _ _ _ p q)
 

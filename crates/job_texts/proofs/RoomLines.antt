@@ -26,6 +26,7 @@ pub closes : (h : Stars) (k n : ℕ) → n ≡ h .count → record { count = h .
 unfolding closeAt
 closes h k n e = rw e
 
+-- entries put and their star closed: one star more, with its end, and its neighbours and kinds from the place on
 close-entries : (h : Stars) (k e : ℕ) (s : Star)
     → closeAt (putEntries h k s) e
     ≡ record { count = h .count + 1; ends = set (h .ends) (h .count) e; nbr = sets (h .nbr) k (map toOf s); kind = sets (h .kind) k (map kindOf s) }
@@ -35,6 +36,7 @@ close-entries h k e (d ∷ s) =
     let z : k + 1 ≡ suc k = omega arith in
     close-entries (putEntry h k (d .to) (d .kind)) (k + 1) e s ∙ rw z
 
+-- the contacts of a line put and their star closed are the line put
 close-contacts : (h : Stars) (m : ℕ) (l : Line) → closePut (putContacts h m l) ≡ putLine h m l
 unfolding closePut putContacts putLine putStar
 close-contacts h m (lacks x) = refl
@@ -99,11 +101,13 @@ module _ (s : List ℕ) (h : Stars) (m n : ℕ) (r : Row) (en : n ≡ h .count) 
     room-closed e at ea q eq er =
         rw (in-turn, eq-eqb k (4 + n) e, ← ea) (er ∙ (rw eq (close-contacts h m (behindNumber (360 - m) (drop at s)))))
 
+-- where there are no bytes nothing stands
 no-length : (c : List ℕ) → length c ≡ 0 → nothing c ≡ true
 unfolding nothing
 no-length [] l = refl
 no-length (x ∷ c) l = absurd (omega arith)
 
+-- where there are bytes something stands
 some-length : (c : List ℕ) → (length c ≡ 0 → ⊥) → nothing c ≡ false
 unfolding nothing
 some-length [] n = absurd (n refl)

@@ -29,6 +29,7 @@ abbrev pub DigitMore : ℕ → ℕ → ℕ → Type 0
 DigitMore n b r = ((t : List ℕ) → aByte (digitsOn r t) ≡ aByte (digitsOn n (b ∷ t))) × (r ≤ 256)
 
 module _ (n b d : ℕ) (e : d ≡ b) where
+  -- a byte that is no digit leaves no number: 256 stands for none
   no-digit : digit b ≡ false → DigitMore n b 256
   unfolding digitsOn aByte
   no-digit f = (λ t. rw f (too-large 256 t (omega arith)), omega arith)
@@ -42,6 +43,7 @@ module _ (n b d : ℕ) (e : d ≡ b) where
   digit-high h g = no-digit (rw (← e, le-leb 48 d h, lt-leb d 57 g))
 
   module _ (h : 48 ≤ d) (g : d ≤ 57) where
+    -- a digit behind a number makes ten times the number and the digit
     a-digit : (t : List ℕ) → digitsOn n (b ∷ t) ≡ digitsOn (10 * n + (d - 48)) t
     unfolding digitsOn digit
     a-digit t = rw (← e, le-leb 48 d h, le-leb d 57 g)
@@ -58,6 +60,7 @@ unfolding below numberOf aByte
 no-number [] e = (refl, omega arith)
 no-number (b ∷ w) e = absurd (omega arith)
 
+-- a word that is not empty says what its digits say behind a 0
 pub number-first : (w : List ℕ) → (length w ≡ 0 → ⊥) → aByte (digitsOn 0 w) ≡ aByte (numberOf w)
 unfolding numberOf
 number-first [] n = absurd (n refl)
@@ -84,6 +87,7 @@ said-byte r (some n) h = go (ltb n 256) refl
     go true t = refl
     go false t = ne-eqb n r (λ e. omega (arith, ltb-false n 256 t))
 
+-- where k stands for the byte that is said, a number below 256 is said exactly if it is k
 pub said-number : (k r : ℕ) (x : Option ℕ) → below 256 k ≡ aByte x → r < 256 → says r x ≡ eqb k r
 unfolding below says aByte
 said-number k r x e h = said-byte r x h ∙ (rw (← e) (sym (said-byte r (some k) h)))

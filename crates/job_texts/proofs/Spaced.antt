@@ -53,6 +53,7 @@ module _ (b : ℕ) where
 
 -- the byte at a place, and those behind it
 module _ (s : List ℕ) (i : ℕ) where
+  -- from a place on stand the byte there and those behind it
   here-more : i < length s → drop i s ≡ getD s i 0 ∷ drop (i + 1) s
   here-more h = let e : i + 1 ≡ suc i = omega arith in rw e (drop-cons s i 0 h)
 
@@ -112,17 +113,21 @@ word-front (b ∷ t) = go (letter b) (word-front t)
     go false p = (refl, refl, omega arith)
 
 module _ (s : List ℕ) (at e : ℕ) where
+  -- past the end stands no word
   pub no-word : length s ≤ at → [] ≡ word (drop at s)
   unfolding word
   no-word h = rw (drop-of-length-le s h)
 
   module _ (q : e ≡ at + length (word (drop at s))) where
+    -- the bytes from a place to the end of the letters there are the word
     pub word-part : take (e - at) (drop at s) ≡ word (drop at s)
     word-part = let z : e - at ≡ length (word (drop at s)) = omega arith in rw z (word-front (drop at s) .0)
 
+    -- the word ends within the bytes
     pub word-within : at < length s → e ≤ length s
     word-within h = omega (arith, word-front (drop at s) .2, length-drop at s)
 
+    -- behind the word and the blanks after it stands the next thing
     pub next-place : (r : ℕ) → drop r s ≡ skip (drop e s) → drop r s ≡ next (drop at s)
     unfolding next
     next-place r h = h ∙ rw q (ap skip (sym (drop-drop (length (word (drop at s))) at s) ∙ word-front (drop at s) .1))
@@ -137,6 +142,7 @@ place-short b (c ∷ t) = go (eqb c b) (place-short b t)
     go true h = omega arith
     go false h = omega arith
 
+-- a line without its comment is what stands before the first sign of one
 uncommented-front : (t : List ℕ) → uncommented t ≡ take (place 35 t) t
 unfolding uncommented place
 uncommented-front [] = refl
@@ -146,6 +152,7 @@ uncommented-front (b ∷ t) = go (eqb b 35) (uncommented-front t)
     go true h = refl
     go false h = ap (λ (l : List ℕ). b ∷ l) h
 
+-- the first n of a list, less the first f, are the first n - f of the list less the first f
 drop-take : (f n : ℕ) (l : List ℕ) → drop f (take n l) ≡ take (n - f) (drop f l)
 drop-take zero n l = let z : n - 0 ≡ n = omega arith in rw z
 drop-take (suc f) zero l = let z : 0 - suc f ≡ 0 = omega arith in rw z
@@ -153,9 +160,11 @@ drop-take (suc f) (suc n) [] = sym (take-nil (suc n - suc f))
 drop-take (suc f) (suc n) (b ∷ l) = let z : suc n - suc f ≡ n - f = omega arith in rw z (drop-take f n l)
 
 module _ (s : List ℕ) (stop : ℕ) (e : stop ≡ 0 + place 35 s) where
+  -- the sign of a comment, or else the end, stands within the line
   pub stop-within : stop ≤ length s
   stop-within = omega (arith, place-short 35 s)
 
+  -- the bytes between the blanks in front and the comment are the line without both
   pub bare-part : (first : ℕ) → drop first (take stop s) ≡ skip (take stop s) → take (stop - first) (drop first s) ≡ skip (uncommented s)
   bare-part first h =
       let z : stop ≡ place 35 s = omega arith in

@@ -41,6 +41,7 @@ lack-short comma h = omega arith
 lack-short noRoom h = omega arith
 lack-short noContact h = omega arith
 
+-- a wrong line told takes no more than 62 bytes, where the numbers in it are below 100,000
 pub line-short : (n : ℕ) (x : Expected) → n < 100000 → numberIn x < 100000 → length (jobAnswer (wrongLine n x)) ≤ 62
 unfolding jobAnswer plain
 line-short n x l h =

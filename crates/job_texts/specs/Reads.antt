@@ -115,6 +115,7 @@ unfoldable pub toldRow : Verdict → ℕ → Stars → Put
 toldRow Right k h = good k h
 toldRow (Wrong x) k h = bad (lackOf x)
 
+-- what the row that the code answers tells of a line
 unfoldable pub rowOf : Row → Put
 rowOf r = toldRow (r .verdict) (r .next) (r .stars)
 
@@ -139,5 +140,6 @@ unfoldable pub toldText : Verdict → ℕ → Stars → Kept
 toldText Right i h = allHeld h
 toldText (Wrong x) i h = wrongAt i (lackOf x)
 
+-- what the answer of the code tells of a text
 unfoldable pub takenOf : Taken → Kept
 takenOf r = toldText (r .verdict) (r .line) (r .stars)

@@ -20,6 +20,7 @@ use Rattle.jobs.specs.declared.Answer.the-variants.{Passed, Refused}
 use Rattle.jobs.specs.declared.Read.{Read}
 use Rattle.jobs.specs.Reads.{said, outcome, Tells}
 
+-- two answers that say the same beside one job are equal
 same-answer : (a b : Answer) (j : Job) (x : Reading) → said a j ≡ x → said b j ≡ x → a ≡ b
 unfolding said
 same-answer Passed Passed j x p q = refl
@@ -27,6 +28,7 @@ same-answer Passed (Refused k) j x p q = absurd (let z : _≡_ {A = ℕ} 0 1 = c
 same-answer (Refused k) Passed j x p q = absurd (let z : _≡_ {A = ℕ} 0 1 = cc in omega arith)
 same-answer (Refused k) (Refused l) j x p q = let e : k ≡ l = cc in cc
 
+-- readings with the same answer and the same stars are one
 same-fields : (a b : Answer) (s t : Stars) → a ≡ b → s ≡ t → _≡_ {A = Read} (record { answer = a; stars = s }) (record { answer = b; stars = t })
 same-fields a b s t e f = rw (e, f)
 

@@ -17,6 +17,7 @@ use Rattle.jobs.proofs.Walks.{next-star, no-star, behind}
 
 -- the entries of one star, put one by one: what is left to put, put, gives the whole
 module _ (g : Entry → ℕ) (s a w : List ℕ) (m i : ℕ) where
+  -- the next entry put, those behind it are left
   pub fill-more : (x : ℕ) → x ≡ g (here s (2 * i)) → sets a (m + i) (map g (entries (drop (2 * i) s))) ≡ w → i < length s / 2
       → sets (set a (m + i) x) (m + (i + 1)) (map g (entries (drop (2 * (i + 1)) s))) ≡ w
   fill-more x q inv h =
@@ -24,6 +25,7 @@ module _ (g : Entry → ℕ) (s a w : List ℕ) (m i : ℕ) where
       let e₂ : 2 * (i + 1) ≡ 2 * i + 2 = omega arith in
       rw (e₁, e₂, q) (rw (entries-more s (2 * i) (omega arith)) at inv)
 
+  -- behind the last entry nothing is left to put
   pub fill-done : sets a (m + i) (map g (entries (drop (2 * i) s))) ≡ w → length s / 2 ≤ i → a ≡ w
   fill-done inv h = rw (entries-done s (2 * i) (omega arith)) at inv
 
@@ -31,6 +33,7 @@ module _ (g : Entry → ℕ) (s a w : List ℕ) (m i : ℕ) where
 abbrev pub laid : ℕ → List ℕ → List ℕ → List ℕ → Stars
 laid i ends nbr kind = record { count = i; ends = ends; nbr = nbr; kind = kind }
 
+-- a star's entries put from place m on, and its end noted, are one star more
 star-put : (m i : ℕ) (s ends nbr kind x y : List ℕ) → x ≡ sets nbr m (map toOf (entries s)) → y ≡ sets kind m (map kindOf (entries s))
     → laid (i + 1) (set ends i (m + length s / 2)) x y ≡ putStar (laid i ends nbr kind) m (entries s)
 unfolding putStar
@@ -38,18 +41,22 @@ star-put m i s ends nbr kind x y ex ey = rw (entries-length s, ← ex, ← ey)
 
 -- the stars of a job, put one by one
 module _ (s : List ℕ) (n i at m : ℕ) (v : List ℕ) where
+  -- where the stars left have their places among 360, the next star has
   room-here : i < n → v ≡ valueOf (readField (drop at s)) → m + pairsIn (starsAt (n - i) (drop at s)) ≤ 360 → m + length v / 2 ≤ 360
   unfolding pairsIn sum
   room-here h e k =
       let k′ = rw (next-star s n i at h, ← e) at k in
       omega (arith, entries-length v)
 
+  -- the next star's entries fit a list of 360
   pub room-in : (l : ℕ) → i < n → v ≡ valueOf (readField (drop at s)) → m + pairsIn (starsAt (n - i) (drop at s)) ≤ 360 → l ≡ 360 → m + length v / 2 ≤ l
   room-in l h e k q = omega (arith, room-here h e k)
 
+  -- the place where the next star ends is a number of two bytes
   pub room-word : i < n → v ≡ valueOf (readField (drop at s)) → m + pairsIn (starsAt (n - i) (drop at s)) ≤ 360 → m + length v / 2 < 65536
   room-word h e k = omega (arith, room-here h e k)
 
+  -- the stars behind the next have their places among 360, behind its own
   pub room-behind : (x : ℕ) → i < n → v ≡ valueOf (readField (drop at s)) → x ≡ length s - length (restOf (readField (drop at s)))
       → m + pairsIn (starsAt (n - i) (drop at s)) ≤ 360 → m + length v / 2 + pairsIn (starsAt (n - (i + 1)) (drop x s)) ≤ 360
   unfolding pairsIn sum
@@ -58,6 +65,7 @@ module _ (s : List ℕ) (n i at m : ℕ) (v : List ℕ) where
       omega (arith, entries-length v)
 
   module _ (w : Stars) (ends nbr kind : List ℕ) where
+    -- the next star put, those behind it are left
     pub hold-next : (x : ℕ) (tos kinds : List ℕ) → i < n → v ≡ valueOf (readField (drop at s)) → x ≡ length s - length (restOf (readField (drop at s)))
         → tos ≡ sets nbr m (map toOf (entries v)) → kinds ≡ sets kind m (map kindOf (entries v))
         → putAll (laid i ends nbr kind) m (starsAt (n - i) (drop at s)) ≡ w
@@ -82,6 +90,7 @@ hold-first s n c at a e q h =
       rw (z, e),
     )
 
+-- behind the last star nothing is left to put
 pub hold-done : (s : List ℕ) (n c i at m : ℕ) (ends nbr kind : List ℕ) (w : Stars) → c ≡ n → c ≤ i → i ≤ c
     → putAll (laid i ends nbr kind) m (starsAt (c - i) (drop at s)) ≡ w → laid n ends nbr kind ≡ w
 unfolding putAll

@@ -21,6 +21,7 @@ use Rattle.jobs.specs.declared.Count.the-variants.{Unshaped, Pairs}
 use Rattle.jobs.specs.declared.Shape.the-variants.{Fails, Rooms}
 use Rattle.jobs.specs.Shapes.{counted, pairsPast, starsAt, reading, told}
 
+-- half as many entries as bytes
 pub entries-length : (v : List ℕ) → length (entries v) ≡ length v / 2
 unfolding entries
 entries-length [] = refl
@@ -33,6 +34,7 @@ unfolding starThen
 star-bad t v r none h = refl
 star-bad t v r (some j) h = rw h
 
+-- a field that is a star adds half as many pairs as its value has bytes
 star-good : (p t : ℕ) (v r : List ℕ) (x : Option Job) → (eqb t 2 && eqb (length v % 2) 0) ≡ true
     → pairsPast p (starThen (field t v r) x) ≡ pairsPast (p + length v / 2) x
 unfolding starThen pairsPast pairsIn sum
@@ -55,45 +57,54 @@ module _ (s : List ℕ) (n i at p : ℕ) (w : Option ℕ) where
       rw d at inv
 
   module _ (f : Found) where
+    -- the count, as `count_pairs` comes by it: a broken field, and there are no such stars
     pub count-broken : f ≡ Broken → found f s ≡ readField (drop at s) → i < n → pairsPast p (readStars (n - i) (drop at s)) ≡ w → counted Unshaped ≡ w
     unfolding pairsPast starThen counted
     count-broken b e h inv = rw (no-field s at f b e) at (next h inv)
 
     module _ (t a e : ℕ) (here : f ≡ Whole t a e) (q : found f s ≡ readField (drop at s)) (k : stands f at (length s)) (h : i < n)
         (inv : pairsPast p (readStars (n - i) (drop at s)) ≡ w) where
+      -- the field's value
       abbrev value : List ℕ
       value = take (e - a) (drop a s)
 
+      -- the value has as many bytes as lie between its start and its end
       value-length : length value ≡ e - a
       value-length = length-take-le (e - a) (drop a s) (simp length-drop (omega (arith, within s at f t a e here k)))
 
+      -- the pairs are those of a star with this value, if it is one, and of the stars behind it
       known : pairsPast p (starThen (field t value (drop e s)) (readStars (n - (i + 1)) (drop e s))) ≡ w
       unfolding restOf
       known = rw (the-field s at f t a e here q) at (next h inv)
 
+      -- another tag than 2, and there are no such stars
       pub count-tag : (t ≡ 2 → ⊥) → counted Unshaped ≡ w
       unfolding pairsPast counted
       count-tag g =
           let z : (eqb t 2 && eqb (length value % 2) 0) ≡ false = rw (ne-eqb t 2 g) in
           rw (star-bad t value (drop e s) (readStars (n - (i + 1)) (drop e s)) z) at known
 
+      -- an odd length, and there are no such stars
       pub count-odd : t ≡ 2 → ((e - a) % 2 ≡ 0 → ⊥) → counted Unshaped ≡ w
       unfolding pairsPast counted
       count-odd g o =
           let z : (eqb t 2 && eqb (length value % 2) 0) ≡ false = rw (eq-eqb t 2 g, value-length, ne-eqb ((e - a) % 2) 0 o) in
           rw (star-bad t value (drop e s) (readStars (n - (i + 1)) (drop e s)) z) at known
 
+      -- a star: half its length is added to the pairs, and the stars behind it are left
       pub count-next : t ≡ 2 → (e - a) % 2 ≡ 0 → pairsPast (p + (e - a) / 2) (readStars (n - (i + 1)) (drop e s)) ≡ w
       count-next g o =
           let z : (eqb t 2 && eqb (length value % 2) 0) ≡ true = rw (eq-eqb t 2 g, value-length, eq-eqb ((e - a) % 2) 0 o) in
           rw (star-good p t value (drop e s) (readStars (n - (i + 1)) (drop e s)) z, value-length) at known
 
+  -- bytes left over behind the last star, and there are no such stars
   pub count-left : n ≤ i → at < length s → pairsPast p (readStars (n - i) (drop at s)) ≡ w → counted Unshaped ≡ w
   unfolding pairsPast readStars counted
   count-left h k inv =
       let d : n - i ≡ 0 = omega arith in
       rw (d, drop-cons s at 0 k) at inv
 
+  -- nothing behind the last star: the pairs are counted
   pub count-done : n ≤ i → length s ≤ at → pairsPast p (readStars (n - i) (drop at s)) ≡ w → counted (Pairs p) ≡ w
   unfolding pairsPast readStars counted pairsIn sum
   count-done h k inv =
@@ -106,12 +117,14 @@ picked : (b : Bool) (i j : Job) → cond b (some i) none ≡ some j → i ≡ j
 picked true i j e = cc
 picked false i j e = absurd (let z : _≡_ {A = ℕ} 0 1 = cc in omega arith)
 
+-- a field and the stars behind it, read as a job, are the entries of its value, then those stars
 star-some : (f : Field) (x : Option Job) (j k : Job) → starThen f x ≡ some j → ((i : Job) → x ≡ some i → k ≡ i) → entries (valueOf f) ∷ k ≡ j
 unfolding starThen valueOf
 star-some broken x j k e h = absurd (let z : _≡_ {A = ℕ} 0 1 = cc in omega arith)
 star-some (field t v r) none j k e h = absurd (let z : _≡_ {A = ℕ} 0 1 = cc in omega arith)
 star-some (field t v r) (some i) j k e h = rw (h i refl) (picked (eqb t 2 && eqb (length v % 2) 0) (entries v ∷ i) j e)
 
+-- stars that are read are those that stand in the bytes
 same-stars : (n : ℕ) (bs : List ℕ) (j : Job) → readStars n bs ≡ some j → starsAt n bs ≡ j
 unfolding readStars starsAt
 same-stars zero [] j e = cc
@@ -125,6 +138,7 @@ unfolding counted pairsPast readRest
 count-none none c e q = refl
 count-none (some j) c e q = absurd (let z : _≡_ {A = ℕ} 0 1 = (let r : none ≡ some (0 + pairsIn j) = rw e at q in cc) in omega arith)
 
+-- where pairs are counted, the stars are read as they stand, and have that many pairs
 count-some : (n : ℕ) (bs : List ℕ) (x : Option Job) (c : Count) (p : ℕ) → readStars n bs ≡ x → c ≡ Pairs p → counted c ≡ pairsPast 0 x
     → (reads (starsAt n bs) ≡ readRest x) × (p ≡ pairsIn (starsAt n bs))
 unfolding counted pairsPast readRest
@@ -141,29 +155,36 @@ start-within s at f t a e here k l = omega (arith, within s at f t a e here k)
 
 -- the first field, and the number of rooms
 module _ (s : List ℕ) (f : Found) where
+  -- the shape, as `shape_of` comes by it: a broken first field is refused with 1
   pub shape-broken : found f s ≡ readField (drop 0 s) → f ≡ Broken → (reading (Fails 1) s ≡ readJob s) × told (Fails 1) s
   unfolding reading told readJob readFirst
   shape-broken e b = (rw (no-field s 0 f b e), tt)
 
   module _ (q : found f s ≡ readField (drop 0 s)) (k : stands f 0 (length s)) (t a e : ℕ) (here : f ≡ Whole t a e) where
+    -- the value of the first field
     abbrev first : List ℕ
     first = take (e - a) (drop a s)
 
+    -- it has as many bytes as lie between its start and its end
     first-length : length first ≡ e - a
     first-length = length-take-le (e - a) (drop a s) (simp length-drop (omega (arith, within s 0 f t a e here k)))
 
+    -- a job by its first field: of tag 1 and length 1, the number of rooms goes to test 2; else 1
     first-read : readJob s ≡ cond (eqb t 1 && eqb (e - a) 1) (readRooms (test2 (getD first 0 0)) (getD first 0 0) (drop e s)) (fails 1)
     unfolding readJob readFirst
     first-read = rw (the-field s 0 f t a e here q, first-length)
 
+    -- a first field of another tag than 1 is refused with 1
     pub shape-tag : (t ≡ 1 → ⊥) → (reading (Fails 1) s ≡ readJob s) × told (Fails 1) s
     unfolding reading told
     shape-tag g = (rw (first-read, ne-eqb t 1 g), tt)
 
+    -- a first field of another length than 1 is refused with 1
     pub shape-long : t ≡ 1 → (e - a ≡ 1 → ⊥) → (reading (Fails 1) s ≡ readJob s) × told (Fails 1) s
     unfolding reading told
     shape-long g l = (rw (first-read, eq-eqb t 1 g, ne-eqb (e - a) 1 l), tt)
 
+    -- of tag 1 and length 1, its one byte is the number of rooms
     first-rooms : t ≡ 1 → e - a ≡ 1 → readJob s ≡ readRooms (test2 (getD s a 0)) (getD s a 0) (drop e s)
     first-rooms g l =
         let h : 0 < e - a = omega arith in
@@ -171,10 +192,12 @@ module _ (s : List ℕ) (f : Found) where
         let d : getD first 0 0 ≡ getD s a 0 = getD-take (e - a) (drop a s) 0 0 h ∙ getD-drop a s 0 0 ∙ rw z in
         rw (first-read, eq-eqb t 1 g, eq-eqb (e - a) 1 l, d)
 
+    -- no rooms are refused with 2
     pub shape-none : t ≡ 1 → e - a ≡ 1 → getD s a 0 ≡ 0 → (reading (Fails 2) s ≡ readJob s) × told (Fails 2) s
     unfolding reading told readRooms test2
     shape-none g l n = (rw (first-rooms g l, n), tt)
 
+    -- more than 60 rooms are refused with 2
     pub shape-many : t ≡ 1 → e - a ≡ 1 → 60 < getD s a 0 → (reading (Fails 2) s ≡ readJob s) × told (Fails 2) s
     unfolding reading told readRooms test2
     shape-many g l n =
@@ -182,21 +205,25 @@ module _ (s : List ℕ) (f : Found) where
         (rw (first-rooms g l, le-leb 1 (getD s a 0) o, lt-leb (getD s a 0) 60 n), tt)
 
     module _ (g : t ≡ 1) (l : e - a ≡ 1) (o : getD s a 0 ≡ 0 → ⊥) (m : getD s a 0 ≤ 60) where
+      -- 1 to 60 rooms pass test 2
       right : test2 (getD s a 0) ≡ true
       unfolding test2
       right =
           let p : 1 ≤ getD s a 0 = omega arith in
           rw (le-leb 1 (getD s a 0) p, le-leb (getD s a 0) 60 m)
 
+      -- the job is what stands behind the first field, read as so many stars
       rest-read : readJob s ≡ readRest (readStars (getD s a 0) (drop e s))
       unfolding readRooms
       rest-read = rw (first-rooms g l, right)
 
+      -- what stands behind and is not so many stars, then nothing, is refused with 1
       pub shape-left : (c : Count) → counted c ≡ pairsPast 0 (readStars (getD s a 0) (drop e s)) → c ≡ Unshaped
           → (reading (Fails 1) s ≡ readJob s) × told (Fails 1) s
       unfolding reading told
       shape-left c r u = (sym (rest-read ∙ count-none (readStars (getD s a 0) (drop e s)) c u r), tt)
 
+      -- so many stars, then nothing: the job is those stars, and their pairs are told
       pub shape-whole : (c : Count) (p : ℕ) → counted c ≡ pairsPast 0 (readStars (getD s a 0) (drop e s)) → c ≡ Pairs p
           → (reading (Rooms (getD s a 0) e p) s ≡ readJob s) × told (Rooms (getD s a 0) e p) s
       unfolding reading told

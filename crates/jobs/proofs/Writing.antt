@@ -21,6 +21,7 @@ use Rattle.jobs.specs.Writes.{starField}
 
 -- the entries of a part, put one by one: what is left to put, put, gives the whole
 module _ (o w nbr kind : List ℕ) (at from m i : ℕ) where
+  -- the next entry put, those behind it are left
   pub put-more : (x y : ℕ) → sets o (at + 2 * i) (starBytes (cells (m - i) (from + i) nbr kind)) ≡ w → i < m → x ≡ toAt nbr (from + i)
       → y ≡ getD kind (from + i) 0
       → sets (set (set o (at + 2 * i) x) (at + 2 * i + 1) y) (at + 2 * (i + 1)) (starBytes (cells (m - (i + 1)) (from + (i + 1)) nbr kind)) ≡ w
@@ -32,6 +33,7 @@ module _ (o w nbr kind : List ℕ) (at from m i : ℕ) where
       let e₃ : at + 2 * (i + 1) ≡ suc (suc (at + 2 * i)) = omega arith in
       rw (e₁, e₂, e₃, ex, ey) (rw e₀ at inv)
 
+  -- behind the last entry nothing is left to put
   pub put-done : sets o (at + 2 * i) (starBytes (cells (m - i) (from + i) nbr kind)) ≡ w → m ≤ i → o ≡ w
   unfolding starBytes cells
   put-done inv h =
@@ -44,19 +46,24 @@ module _ (ends nbr kind : List ℕ) (i : ℕ) where
   abbrev begin : ℕ
   begin = startOf ends (length nbr) i
 
+  -- how many entries it has
   abbrev many : ℕ
   many = endOf ends (length nbr) i - begin
 
+  -- three bytes for the head, and two for each entry
   pub length-field : (m : ℕ) → m ≡ many → length (starField ends nbr kind i) ≡ 3 + 2 * m
   unfolding starField writeField heldStar
   length-field m e = omega (arith, length-starBytes (cells many begin nbr kind), length-cells many begin nbr kind)
 
+  -- where the field fits, its head and its entries do
   pub field-room : (at m l k : ℕ) → m ≡ many → k ≡ l → at + length (starField ends nbr kind i) ≤ l → at + 3 + 2 * m ≤ k
   field-room at m l k e q h = omega (arith, length-field m e)
 
+  -- the place behind its head and its entries is the place behind the field
   pub field-end : (at m : ℕ) → m ≡ many → at + 3 + 2 * m ≡ at + length (starField ends nbr kind i)
   field-end at m e = omega (arith, length-field m e)
 
+  -- a head of tag 2, then the entries, are the field put at its place
   pub field-put : (o h x : List ℕ) (at from m : ℕ) → m ≡ many → from ≡ begin → at + length (starField ends nbr kind i) ≤ length o
       → h ≡ withHead o at 2 (2 * m)
       → x ≡ sets h (at + 3) (starBytes (cells m from nbr kind)) → x ≡ sets o at (starField ends nbr kind i)
@@ -69,38 +76,47 @@ module _ (ends nbr kind : List ℕ) (i : ℕ) where
 
 -- the stars, field by field
 module _ (ends nbr kind : List ℕ) (n i : ℕ) (h : i < n) where
+  -- the field of star i stands first, then those of the stars behind it
   next-field : writeStars (starsIn (n - i) i ends nbr kind) ≡ starField ends nbr kind i ++ writeStars (starsIn (n - (i + 1)) (i + 1) ends nbr kind)
   unfolding writeStars starField
   next-field = rw (held-more ends nbr kind n i h)
 
+  -- together they are as long as the field of star i and those behind it
   next-length : length (writeStars (starsIn (n - i) i ends nbr kind))
       ≡ length (starField ends nbr kind i) + length (writeStars (starsIn (n - (i + 1)) (i + 1) ends nbr kind))
   next-length = rw next-field (length-append (starField ends nbr kind i) (writeStars (starsIn (n - (i + 1)) (i + 1) ends nbr kind)))
 
+  -- where all of them fit, the field of star i does
   pub room-field : (at l k : ℕ) → k ≡ l → at + length (writeStars (starsIn (n - i) i ends nbr kind)) ≤ l → at + length (starField ends nbr kind i) ≤ k
   room-field at l k q r = omega (arith, next-length)
 
+  -- where all of them fit, those behind star i fit behind its field
   pub room-later : (at l y : ℕ) → y ≡ at + length (starField ends nbr kind i) → at + length (writeStars (starsIn (n - i) i ends nbr kind)) ≤ l
       → y + length (writeStars (starsIn (n - (i + 1)) (i + 1) ends nbr kind)) ≤ l
   room-later at l y e k = omega (arith, next-length)
 
+  -- the next field put, those behind it are left
   pub stars-more : (o w x : List ℕ) (at y : ℕ) → x ≡ sets o at (starField ends nbr kind i) → y ≡ at + length (starField ends nbr kind i)
       → sets o at (writeStars (starsIn (n - i) i ends nbr kind)) ≡ w → sets x y (writeStars (starsIn (n - (i + 1)) (i + 1) ends nbr kind)) ≡ w
   stars-more o w x at y ex ey inv =
       rw (ex, ey) (sym (sets-append o at (starField ends nbr kind i) (writeStars (starsIn (n - (i + 1)) (i + 1) ends nbr kind))) ∙ (rw next-field at inv))
 
+  -- the bytes of the next field added, those behind it are left
   pub total-more : (t l m : ℕ) → m ≡ endOf ends (length nbr) i - startOf ends (length nbr) i → t + length (writeStars (starsIn (n - i) i ends nbr kind)) ≡ l
       → t + (3 + 2 * m) + length (writeStars (starsIn (n - (i + 1)) (i + 1) ends nbr kind)) ≡ l
   total-more t l m e k = omega (arith, next-length, length-field ends nbr kind i m e)
 
 module _ (ends nbr kind : List ℕ) (n i : ℕ) (h : n ≤ i) where
+  -- behind the last star no field is left
   no-field : writeStars (starsIn (n - i) i ends nbr kind) ≡ []
   unfolding writeStars
   no-field = rw (held-done ends nbr kind n i h)
 
+  -- behind the last star nothing is left to put
   pub stars-done : (o w : List ℕ) (at : ℕ) → sets o at (writeStars (starsIn (n - i) i ends nbr kind)) ≡ w → o ≡ w
   stars-done o w at inv = rw no-field at inv
 
+  -- behind the last star nothing is left to add
   pub total-done : (t l : ℕ) → t + length (writeStars (starsIn (n - i) i ends nbr kind)) ≡ l → t ≡ l
   total-done t l k = (omega arith) ∙ (rw no-field at k)
 
@@ -110,18 +126,22 @@ module _ (n : ℕ) (ends nbr kind : List ℕ) where
   abbrev bytes : List ℕ
   bytes = writeJob (jobIn n ends nbr kind)
 
+  -- tag 1, length 1, the number of rooms, then the stars
   job-bytes : bytes ≡ 1 ∷ 0 ∷ 1 ∷ n ∷ writeStars (jobIn n ends nbr kind)
   unfolding writeJob writeField
   job-bytes = rw (length-stars n 0 ends nbr kind)
 
+  -- four bytes for the first field, then those of the stars
   pub length-job : length bytes ≡ 4 + length (writeStars (jobIn n ends nbr kind))
   length-job = rw job-bytes (omega arith)
 
+  -- at the start, with four bytes counted, all the stars are left to add
   pub total-first : 4 + length (writeStars (jobIn (n - 0) ends nbr kind)) ≡ length bytes
   total-first =
       let z : n - 0 ≡ n = omega arith in
       rw z (sym length-job)
 
+  -- at the start all the stars are left to put, and they fit
   pub put-first : (o : List ℕ) (at : ℕ) → at + length (writeStars (jobIn n ends nbr kind)) ≤ length o
       → (length o ≡ length o) × (at + length (writeStars (jobIn (n - 0) ends nbr kind)) ≤ length o)
       × (sets o at (writeStars (jobIn (n - 0) ends nbr kind)) ≡ sets o at (writeStars (jobIn n ends nbr kind)))
@@ -130,12 +150,15 @@ module _ (n : ℕ) (ends nbr kind : List ℕ) where
       (refl, rw z k, rw z)
 
   module _ (m : ℕ) (em : m ≡ n) (o : List ℕ) (l : ℕ) (e : l ≡ length (writeJob (jobIn m ends nbr kind))) where
+    -- the length that was counted is that of the job's bytes
     is-length : l ≡ length bytes
     is-length = rw em at e
 
+    -- too short a buffer: refused, and the buffer as it was
     pub write-short : length o < l → (replied TooShort ≡ writing bytes o .reply) × (o ≡ writing bytes o .buffer)
     write-short k = short-writes bytes o (omega (arith, is-length))
 
+    -- a buffer with room: the length is told, and the front filled
     pub write-done : (x y : List ℕ) → y ≡ withHead o 0 1 1 → x ≡ sets (set y 3 n) 4 (writeStars (jobIn m ends nbr kind)) → l ≤ length o
         → (replied (Wrote l) ≡ writing bytes o .reply) × (x ≡ writing bytes o .buffer)
     unfolding withHead

@@ -23,6 +23,7 @@ same-fuel (suc f) (suc g) n t h k = go (decLt n 10) (same-fuel f g (n / 10) ((48
 
 -- the digits of what is left of a number, put before those that stand on the page
 module _ (page w : List ℕ) (start n : ℕ) (l : length page ≡ 20) where
+  -- a byte put just before the digits on the page stands in front of them
   put-before : (b : ℕ) → 0 < start → start ≤ 20 → drop (start - 1) (set page (start - 1) b) ≡ b ∷ drop start page
   put-before b h k =
       let e : suc (start - 1) ≡ start = omega arith in
@@ -44,12 +45,14 @@ module _ (page w : List ℕ) (start n : ℕ) (l : length page ≡ 20) where
   unfolding digits
   digit-last inv h s k = put-before (48 + n) s k ∙ (rw (lt-ltb n 10 h) at inv)
 
+-- before any digit stands on the page, all the digits of the number are left to put
 pub digits-first : (page : List ℕ) (n : ℕ) → length page ≡ 20 → digits (suc n) n (drop 20 page) ≡ decimal n
 unfolding decimal
 digits-first page n l = let k : length page ≤ 20 = omega arith in rw (drop-of-length-le page k)
 
 -- there is room for a digit while one is left
 module _ (start n : ℕ) where
+  -- a number of 10 or more that is below 10 ^ start has two digits to put, so start is at least 2
   two-left : 10 ≤ n → n < 10 ^ start → 2 ≤ start
   two-left h k = room start k
     where
@@ -58,9 +61,11 @@ module _ (start n : ℕ) where
       room (suc zero) l = absurd (omega arith)
       room (suc (suc s)) l = omega arith
 
+  -- so there is a place left behind the next digit
   pub room-left : 10 ≤ n → n < 10 ^ start → 0 < start - 1
   room-left h k = omega (arith, two-left h k)
 
+  -- a tenth of the number is below the power one smaller
   pub tenth-fits : 10 ≤ n → n < 10 ^ start → n / 10 < 10 ^ (start - 1)
   tenth-fits h k =
       let e : start ≡ suc (start - 1) = omega (arith, two-left h k) in
@@ -84,6 +89,7 @@ digits-short (suc f) k n t h = go (decLt n 10) k h (λ i. digits-short f i (n / 
     go (no l) zero g rest = absurd (omega arith)
     go (no l) (suc i) g rest = rw (le-ltb n 10 (omega arith)) (omega (arith, rest i (omega arith)))
 
+-- a number below 10 ^ (k + 1) is written in at most k + 1 digits
 pub decimal-short : (k n : ℕ) → n < 10 ^ suc k → length (decimal n) ≤ suc k
 unfolding decimal
 decimal-short k n h = omega (arith, digits-short (suc n) k n [] h)

@@ -64,10 +64,12 @@ none-put o at = record { buffer = refl; place = omega arith }
 
 -- one byte, put or not
 module _ (o : List ℕ) (at b : ℕ) where
+  -- a byte is put where there is room, and the place behind it is the next
   pub byte-put : at < length o → Puts o at (b ∷ []) (set o at b) (at + 1)
   unfolding behind
   byte-put h = record { buffer = refl; place = omega arith }
 
+  -- past the end no byte is put, and the place stays
   pub byte-out : length o ≤ at → Puts o at (b ∷ []) o at
   unfolding behind
   byte-out h = record { buffer = sym (set-out o at b h); place = omega arith }

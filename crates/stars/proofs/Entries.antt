@@ -17,6 +17,7 @@ use Rattle.stars.specs.Pairs.{pair, ofKind, rises, apart, everyKind}
 abbrev pub here : List ℕ → ℕ → Entry
 here s i = pair (getD s i 0) (getD s (i + 1) 0)
 
+-- the entries from a place on are the one there and those behind it
 pub entries-more : (s : List ℕ) (i : ℕ) → i + 1 < length s → entries (drop i s) ≡ here s i ∷ entries (drop (i + 2) s)
 unfolding entries
 entries-more s i h =
@@ -26,12 +27,14 @@ entries-more s i h =
     let e₂ : i + 2 ≡ suc (suc i) = omega arith in
     rw (e₁, e₂, drop-cons s i 0 h₀, drop-cons s (suc i) 0 h₁)
 
+-- less than two bytes hold no entry
 short : (l : List ℕ) → length l ≤ 1 → entries l ≡ []
 unfolding entries
 short [] h = refl
 short (v ∷ []) h = refl
 short (v ∷ k ∷ r) h = absurd (omega arith)
 
+-- where less than two bytes are left there is no entry
 pub entries-done : (s : List ℕ) (i : ℕ) → length s ≤ i + 1 → entries (drop i s) ≡ []
 entries-done s i h = short (drop i s) (simp length-drop (omega arith))
 
@@ -74,6 +77,7 @@ module _ (s : List ℕ) (w : Bool) (i v k : ℕ) where
   unfolding all
   apart-next e h inv = rw (entries-more s i h, ne-eqb v (getD s i 0) e) at inv
 
+-- in at most three bytes no kind falls
 one-entry : (l : List ℕ) → length l ≤ 3 → true ≡ chained rises (entries l)
 unfolding chained entries
 one-entry [] h = refl
@@ -82,6 +86,7 @@ one-entry (v ∷ k ∷ []) h = refl
 one-entry (v ∷ k ∷ u ∷ []) h = refl
 one-entry (v ∷ k ∷ u ∷ m ∷ r) h = absurd (omega arith)
 
+-- a test that passes together with true is that test
 and-true : (d : Bool) → d && true ≡ d
 and-true true = refl
 and-true false = refl
@@ -110,6 +115,7 @@ module _ (s : List ℕ) (w : Bool) (i : ℕ) where
       let e : i + 3 ≡ i + 2 + 1 = omega arith in
       rw (e, entries-more s i h₀, entries-more s (i + 2) h₂)
 
+  -- behind the entry at place i stand the next one and those behind it
   later : i + 3 < length s → entries (drop (i + 2) s) ≡ pair (getD s (i + 2) 0) (getD s (i + 3) 0) ∷ entries (drop (i + 2 + 2) s)
   later h =
       let h₂ : i + 2 + 1 < length s = omega arith in

@@ -12,6 +12,7 @@ use Rattle.floor.specs.Jobs.{Star, Job, entryOk, starOf, rooms, test4, test6}
 use Rattle.stars.specs.Rooms.{allFrom}
 use Rattle.stars.specs.Held.{answers, starAnswers}
 
+-- the star behind so many others is that of the room whose number is 4 more
 star-here : (full pre : Job) (s : Star) (j : Job) (u : ℕ) → full ≡ pre ++ (s ∷ j) → u ≡ 4 + length pre → starOf full u ≡ s
 unfolding starOf
 star-here full pre s j u e q =
@@ -19,6 +20,7 @@ star-here full pre s j u e q =
     let d : u - 4 ≡ length pre = omega arith in
     rw (le-leb 4 u h, d, e) (getD-append-seam pre s j [])
 
+-- a test of the rooms from u on, by their numbers, is the test of their stars in turn
 rooms-from : (p : ℕ → Star → Bool) (full pre j : Job) (u : ℕ) → full ≡ pre ++ j → u ≡ 4 + length pre
     → all (λ v. p v (starOf full v)) (upFrom u (length j)) ≡ allFrom p u j
 unfolding all upFrom allFrom

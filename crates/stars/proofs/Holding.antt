@@ -49,6 +49,7 @@ module _ (l : List ℕ) (most i : ℕ) where
 
 -- the next entry of a part, and those behind it
 module _ (nbr kind : List ℕ) (end k : ℕ) where
+  -- the entries from place k to the end are the one at k and those behind it
   pub cells-more : k < end → cells (end - k) k nbr kind ≡ entryAt nbr kind k ∷ cells (end - (k + 1)) (k + 1) nbr kind
   unfolding cells
   cells-more h =
@@ -56,6 +57,7 @@ module _ (nbr kind : List ℕ) (end k : ℕ) where
       let s : k + 1 ≡ suc k = omega arith in
       rw (d, s)
 
+  -- at the end there is no entry left
   pub cells-done : end ≤ k → cells (end - k) k nbr kind ≡ []
   unfolding cells
   cells-done h =
@@ -64,6 +66,7 @@ module _ (nbr kind : List ℕ) (end k : ℕ) where
 
 -- the next star, and those behind it
 module _ (ends nbr kind : List ℕ) (n i : ℕ) where
+  -- the stars from star i on are star i and those behind it
   pub held-more : i < n → starsIn (n - i) i ends nbr kind ≡ heldStar ends nbr kind i ∷ starsIn (n - (i + 1)) (i + 1) ends nbr kind
   unfolding starsIn
   held-more h =
@@ -71,6 +74,7 @@ module _ (ends nbr kind : List ℕ) (n i : ℕ) where
       let s : i + 1 ≡ suc i = omega arith in
       rw (d, s)
 
+  -- behind the last there is no star left
   pub held-done : n ≤ i → starsIn (n - i) i ends nbr kind ≡ []
   unfolding starsIn
   held-done h =
@@ -103,6 +107,7 @@ module _ (nbr kind : List ℕ) (v want : ℕ) where
     unfolding lists any
     lists-done h inv = rw (cells-done nbr kind end k h) at inv
 
+-- the star at place k of those from star i on is star i + k
 pub star-in : (m i k : ℕ) (ends nbr kind : List ℕ) → k < m → getD (starsIn m i ends nbr kind) k [] ≡ heldStar ends nbr kind (i + k)
 unfolding starsIn
 star-in zero i k ends nbr kind h = absurd (omega arith)
@@ -117,6 +122,7 @@ unfolding cells
 length-cells zero k nbr kind = refl
 length-cells (suc m) k nbr kind = ap suc (length-cells m (suc k) nbr kind)
 
+-- so many stars are a job of so many rooms
 pub length-stars : (m i : ℕ) (ends nbr kind : List ℕ) → length (starsIn m i ends nbr kind) ≡ m
 unfolding starsIn
 length-stars zero i ends nbr kind = refl
@@ -124,19 +130,23 @@ length-stars (suc m) i ends nbr kind = ap suc (length-stars m (suc i) ends nbr k
 
 -- the star of a vertex
 module _ (ends nbr kind : List ℕ) (n v u want : ℕ) where
+  -- the job of n stars that lie one behind the other
   abbrev job : Job
   job = jobIn n ends nbr kind
 
+  -- a frame side has an empty star
   side-star : v < 4 → starOf job v ≡ []
   unfolding starOf
   side-star h = rw (lt-leb 4 v h)
 
+  -- a number past the rooms has an empty star
   none-star : 4 ≤ v → n ≤ v - 4 → starOf job v ≡ []
   unfolding starOf
   none-star h k =
       let p : length job ≤ v - 4 = omega (arith, length-stars n 0 ends nbr kind) in
       rw (le-leb 4 v h, List·getD-eq-default job [] p)
 
+  -- the star of a room has the entries from where it starts to where it ends
   pub room-star : (x y : ℕ) → 4 ≤ v → v - 4 < n → x ≡ startOf ends (length nbr) (v - 4) → y ≡ endOf ends (length nbr) (v - 4)
       → starOf job v ≡ cells (y - x) x nbr kind
   unfolding starOf heldStar
@@ -267,6 +277,7 @@ pub job-stars : (h : Stars) (n : ℕ) → n ≡ h .count → jobIn n (h .ends) (
 unfolding jobOf
 job-stars h n e = rw e
 
+-- test 6 of stars that lie one behind the other is the test of each star in turn
 pub test6-held : (ends nbr kind : List ℕ) (n : ℕ) (r : Bool) → r ≡ allFrom (starAnswers (jobIn n ends nbr kind)) 4 (jobIn n ends nbr kind)
     → r ≡ test6 (jobIn n ends nbr kind)
 test6-held ends nbr kind n r q = q ∙ sym (test6-stars (jobIn n ends nbr kind))

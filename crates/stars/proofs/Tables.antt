@@ -11,6 +11,7 @@ use Rattle.floor.specs.Lists.{all, upFrom}
 use Rattle.floor.specs.Lists.Laws.{and-left, and-right}
 use Rattle.floor.specs.Jobs.{opposite, frameKind}
 
+-- a test that passes at each of n numbers from i on passes at the k-th of them
 from : (p : ℕ → Bool) (i n : ℕ) → all p (upFrom i n) ≡ true → (k : ℕ) → k < n → p (i + k) ≡ true
 unfolding all upFrom
 from p i zero t k h = absurd (omega arith)
@@ -28,18 +29,22 @@ pub opposite-in : (i k : ℕ) → i ≡ k → getD (2 ∷ 3 ∷ 0 ∷ 1 ∷ []) 
 unfolding opposite
 opposite-in i k e = rw e
 
+-- a number over 3 has the opposite 0
 pub opposite-past : (i k : ℕ) → i ≡ k → 4 ≤ i → 0 ≡ opposite k
 unfolding opposite
 opposite-past i k e h = rw (← e) (sym (List·getD-eq-default (2 ∷ 3 ∷ 0 ∷ 1 ∷ []) 0 h))
 
+-- the table gives each frame side its one kind
 pub side-in : (v : ℕ) → getD (0 ∷ 1 ∷ 2 ∷ 3 ∷ []) v 0 ≡ frameKind v
 unfolding frameKind
 side-in v = refl
 
+-- a number over 3 has the frame kind 0
 pub side-past : (v : ℕ) → 4 ≤ v → 0 ≡ frameKind v
 unfolding frameKind
 side-past v h = sym (List·getD-eq-default (0 ∷ 1 ∷ 2 ∷ 3 ∷ []) 0 h)
 
+-- the test whether the opposite's opposite is the kind itself
 back : ℕ → Bool
 back k = eqb (opposite (opposite k)) k
 

@@ -14,6 +14,7 @@ line-more : (n m : ℕ) (ns : List ℕ) → (decimal n ++ (32 ∷ [])) ++ line (
 unfolding line
 line-more n m ns = append-assoc (decimal n) (32 ∷ []) (line (m ∷ ns))
 
+-- a number, a space and the line of the others, put one behind the other, are the line of all
 pub more-puts : (n m : ℕ) (ns o x y : List ℕ) (at k r : ℕ) → Puts o at (decimal n ++ (32 ∷ [])) x k → Puts x k (line (m ∷ ns)) y r
     → Puts o at (line (n ∷ m ∷ ns)) y r
 more-puts n m ns o x y at k r p q = rw line-more at (both-puts o x y (decimal n ++ (32 ∷ [])) (line (m ∷ ns)) at k r p q)
@@ -23,13 +24,16 @@ pub one-short : (n : ℕ) → n < 100000 → length (line (n ∷ [])) ≤ 6
 unfolding line
 one-short n h = omega (arith, length-append (decimal n) (10 ∷ []), decimal-short 4 n h)
 
+-- a number below 100,000 before a line makes it at most 6 bytes longer
 more-short : (n m k : ℕ) (ns : List ℕ) → n < 100000 → length (line (m ∷ ns)) ≤ k → length (line (n ∷ m ∷ ns)) ≤ 6 + k
 unfolding line
 more-short n m k ns h l = omega (arith, length-append (decimal n) (32 ∷ line (m ∷ ns)), decimal-short 4 n h)
 
+-- two numbers: at most 12 bytes
 pub two-short : (a b : ℕ) → a < 100000 → b < 100000 → length (line (a ∷ b ∷ [])) ≤ 12
 two-short a b ha hb = more-short a b 6 [] ha (one-short b hb)
 
+-- five numbers: at most 30 bytes
 pub five-short : (v a b c d : ℕ) → v < 100000 → a < 100000 → b < 100000 → c < 100000 → d < 100000 → length (line (v ∷ a ∷ b ∷ c ∷ d ∷ [])) ≤ 30
 five-short v a b c d hv ha hb hc hd =
     more-short v a 24 (b ∷ c ∷ d ∷ []) hv (more-short a b 18 (c ∷ d ∷ []) ha (more-short b c 12 (d ∷ []) hb (two-short c d hc hd)))

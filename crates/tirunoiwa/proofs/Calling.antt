@@ -44,11 +44,13 @@ behind-any c P f (spans r) b h = f b
 behind-any c P f (says t) b h = f b
 behind-any c P f (wrote n) b h = f b
 
+-- what any answer of a call has, and the refusal of the step before it, the answer of both together has
 pub then-any : (s : Step) (c : Call) (P : Reply → Type 0) → ((b : Board) → P (step b c .reply)) → ((k : ℕ) → s .reply ≡ refusal k → P (refusal k))
     → P (then s c .reply)
 unfolding then
 then-any s c P f h = behind-any c P f (s .reply) (s .board) h
 
+-- where a refusal of the first is one of 1 to 14, so is that of both together
 pub then-numbered : (s : Step) (c : Call) → Numbered (s .reply) → Numbered (then s c .reply)
 then-numbered s c n = then-any s c Numbered (λ b. step-numbered b c) (λ k e. rw e at n)
 
@@ -60,6 +62,7 @@ then-refused s c e h = let (x, y) = behind-refused (s .reply) (s .board) c (rw e
 -- ---- a call on a reached board
 
 module _ {b : HeldBoard} (h : Reached b) (c : Call) {r : Handed} {x : List ℕ} (t : Tells r x (outcome b c)) where
+  -- the call does as the rules say
   told : AsRules b c r x
   told = reached-step b h c r x t
 

@@ -15,6 +15,7 @@ pub says-fits : (t : Bool) → Fits w64 (256 + boolByte t)
 says-fits true = omega arith
 says-fits false = omega arith
 
+-- yes or no, told so, is that reply as one number
 pub code-says : (q : Said) (t : Bool) → q ≡ Says t → 256 + boolByte t ≡ code (replyOf q)
 unfolding replyOf code
 code-says q true e = rw e
@@ -25,6 +26,7 @@ pub wrote-fits : (q : Said) (n : ℕ) → q ≡ Wrote n → code (replyOf q) < 2
 unfolding replyOf code
 wrote-fits q n e h = let k : 256 + n < 2 ^ 64 = rw e at h in record { fits = k }
 
+-- a length, told as 256 more, is that reply as one number
 pub code-wrote : (q : Said) (n : ℕ) → q ≡ Wrote n → 256 + n ≡ code (replyOf q)
 unfolding replyOf code
 code-wrote q n e = rw e

@@ -12,10 +12,12 @@ use Rattle.letters.proofs.Rows.{front-whole}
 
 -- a room's star: 14, or its length and its bytes
 module _ (bs s buf : List ℕ) (room : ℕ) (e : s ≡ rawStar bs room) where
+  -- too short a buffer: 14, and the buffer as it was
   pub star-short : length buf < length s → (14 ≡ code (starOfJob bs room buf .reply)) × (buf ≡ starOfJob bs room buf .buffer)
   unfolding starOfJob writing replied code
   star-short h = let (x, y) = short-writes (rawStar bs room) buf (rw e at h) in (ap code x, y)
 
+  -- a buffer with room: the length, told as 256 more, and the front filled
   pub star-put : (x : List ℕ) (n : ℕ) → length s ≤ length buf → Puts buf 0 s x n
       → (256 + n ≡ code (starOfJob bs room buf .reply)) × (x ≡ starOfJob bs room buf .buffer)
   unfolding starOfJob writing replied code

@@ -22,6 +22,7 @@ use Rattle.tirunoiwa.proofs.Calling.{then-any, then-numbered}
 abbrev pub Promised : Step → ℕ → List ℕ → Type 0
 Promised s r x = (r ≡ code (s .reply)) × (x ≡ s .buffer)
 
+-- such a promise allows one answer and one buffer
 one : (s : Step) (r t : ℕ) (x y : List ℕ) → Promised s r x → Promised s t y → (r ≡ t) × (x ≡ y)
 one s r t x y p q = (p .0 ∙ sym (q .0), p .1 ∙ sym (q .1))
 
@@ -75,19 +76,24 @@ YesNo (spans r) = ⊥
 YesNo (says t) = Unit {0}
 YesNo (wrote n) = ⊥
 
+-- a refusal is no length
 no-wrote : {X : Type 0} {k n : ℕ} → refusal k ≡ wrote n → X
 no-wrote e = let z : _≡_ {A = ℕ} 0 1 = cc in absurd (omega arith)
 
+-- a refusal is neither yes nor no
 no-says : {X : Type 0} {k : ℕ} {t : Bool} → refusal k ≡ says t → X
 no-says e = let z : _≡_ {A = ℕ} 0 1 = cc in absurd (omega arith)
 
+-- replies of a length that are equal tell one length
 same-wrote : {k l : ℕ} → wrote k ≡ wrote l → k ≡ l
 same-wrote e = cc
 
+-- replies of yes or no that are equal tell the same
 same-says : {t s : Bool} → says t ≡ says s → t ≡ s
 same-says e = cc
 
 module _ (k : ℕ) (n : Numbered (refusal k)) where
+  -- a refusal with a number from 1 to 14 is read as that refusal
   a-refusal : Refusals (code (refusal k)) (refusal k)
   unfolding code
   a-refusal = record { refused = λ l. ((λ e. (same-refusal e, omega (arith, n .1))), λ e. ap refusal (e .0)); number = λ h. n }
@@ -96,6 +102,7 @@ module _ (k : ℕ) (n : Numbered (refusal k)) where
 not-refused : (r : Reply) → 256 ≤ code r → ((k : ℕ) → refusal k ≡ r → ⊥) → Refusals (code r) r
 not-refused r h f = record { refused = λ k. ((λ e. absurd (f k (sym e))), λ e. absurd (omega (arith, h, e .1))); number = λ l. absurd (omega (arith, h, l)) }
 
+-- a refusal or a length is read as what it is
 tells-length : (r : Reply) → Numbered r → Lengths r → TellsLength (code r) r
 unfolding code
 tells-length (refusal k) n w = record { refusals = a-refusal k n; length = λ m. ((λ e. no-wrote e), λ e. absurd (omega (arith, n .1, e))) }
@@ -107,6 +114,7 @@ tells-length (wrote l) n w = record {
   length = λ m. ((λ e. ap (λ (k : ℕ). 256 + k) (same-wrote e)), λ e. ap wrote (omega (arith, e)));
 }
 
+-- a refusal, or yes or no, is read as what it is
 tells-yes : (r : Reply) → Numbered r → YesNo r → TellsYes (code r) r
 unfolding code
 tells-yes (refusal k) n w = record { refusals = a-refusal k n; yes = λ t. ((λ e. no-says e), λ e. absurd (omega (arith, n .1, e))) }
@@ -128,6 +136,7 @@ writes-lengths b true bs buf = tt
 writes-lengths b false bs buf = tt
 
 module _ (bs : List ℕ) where
+  -- where the load is refused, its number is one of 1 to 14
   loaded : Numbered (step empty (loads bs) .reply)
   loaded = step-numbered empty (loads bs)
 
@@ -174,6 +183,7 @@ module _ (bs : List ℕ) where
 
 -- ---- a refusal leaves every byte of the buffer
 
+-- where a call behind another is refused, or none is made, the buffer that it lends is as it was
 behind-leaves : (r : Reply) (b : Board) (c : Call) (k : ℕ) → behind r b c .reply ≡ refusal k → behind r b c .buffer ≡ lent c
 unfolding behind refuse
 behind-leaves (refusal l) b c k e = refl
@@ -183,14 +193,17 @@ behind-leaves (says t) b c k e = refused-leaves b c k e .same-buffer
 behind-leaves (wrote n) b c k e = refused-leaves b c k e .same-buffer
 
 module _ (bs buf : List ℕ) (k : ℕ) where
+  -- a plan that is refused leaves the buffer as it was
   pub plan-leaves : planOfJob bs buf .reply ≡ refusal k → planOfJob bs buf .buffer ≡ buf
   unfolding planOfJob then lent
   plan-leaves e = behind-leaves _ _ (writesPlan buf) k e
 
+  -- a turned job that is refused leaves the buffer as it was
   pub turned-leaves : (u v : ℕ) → turnedOfJob bs u v buf .reply ≡ refusal k → turnedOfJob bs u v buf .buffer ≡ buf
   unfolding turnedOfJob then lent
   turned-leaves u v e = behind-leaves _ _ (writesJob buf) k e
 
+  -- a star that is refused leaves the buffer as it was
   pub star-leaves : (room : ℕ) → starOfJob bs room buf .reply ≡ refusal k → starOfJob bs room buf .buffer ≡ buf
   unfolding starOfJob
   star-leaves room e = go _ e

@@ -12,10 +12,10 @@ use Rattle.floor.specs.Jobs.Facts.{is-room, room-is}
 use Rattle.floor.specs.Jobs.Raw.{Stretch, raw-star, raw-fails, raw-no-room}
 use Rattle.floor.specs.Plans.{Plan, Answer, refused, held, writePlan}
 use Rattle.floor.specs.Turns.{turn}
-use Rattle.floor.specs.Calls.{load, Board, empty, holding, turns, writesJob, writesPlan, refusal, wrote, refuse, after, writes, step}
+use Rattle.floor.specs.Calls.{load, Board, empty, holding, turns, writesJob, writesPlan, refusal, wrote, refuse, after, writes, step, Answers}
 use Rattle.floor.specs.Calls.Sound.{Sound, load-held, turn-held}
 use Rattle.floor.specs.Calls.Bytes.{job-length-most, plan-length-most}
-use Rattle.floor.specs.Calls.Exact.{Answers, load-answers, turn-answers}
+use Rattle.floor.specs.Calls.Exact.{load-answers, turn-answers}
 use Rattle.floor.specs.Tracker.{behind, then, planOfJob, turnedOfJob, starOfJob}
 use Rattle.tirunoiwa.proofs.Numbers.{same-refusal}
 
@@ -36,12 +36,14 @@ unfolding then behind after refuse step
 plan-behind (refused k) buf n s e = omega (arith, n .1, same-refusal e)
 plan-behind (held j p) buf n s e = fits-written (holding j p) (writePlan p) buf 14 (s j p refl) e
 
+-- behind a turn, the writing of a job that fits the buffer is not refused with 14
 job-behind : (b : Board) (x : Answer) (buf : List ℕ) → Answers 7 12 x → ((j : Job) (p : Plan) → x ≡ held j p → length (writeJob j) ≤ length buf)
     → then (after b x) (writesJob buf) .reply ≡ refusal 14 → ⊥
 unfolding then behind after refuse step
 job-behind b (refused k) buf n s e = omega (arith, n .1, same-refusal e)
 job-behind b (held j p) buf n s e = fits-written (holding j p) (writeJob j) buf 14 (s j p refl) e
 
+-- behind a load and a turn, the writing of the job to 904 bytes is not refused with 14
 turned-behind : (x : Answer) (u v : ℕ) (buf : List ℕ) → Answers 1 9 x → ((j : Job) (p : Plan) → x ≡ held j p → Sound j p) → 904 ≤ length buf
     → then (then (after empty x) (turns u v)) (writesJob buf) .reply ≡ refusal 14 → ⊥
 unfolding then behind after refuse step
@@ -66,6 +68,7 @@ stretch-most part bs s =
     let e : length bs ≡ length (s .front ++ (part ++ s .back)) = ap (λ (l : List ℕ). length l) (s .whole) in
     omega (arith, e, length-append (s .front) (part ++ s .back), length-append part (s .back))
 
+-- the star that is handed back has no more bytes than the job
 star-most : (bs : List ℕ) (room : ℕ) → length (rawStar bs room) ≤ length bs
 star-most bs room = go (readJob bs) refl
   where

@@ -26,20 +26,29 @@ fn show(answer: usize, out: &[u8]) {
     }
 }
 
-fn main() {
-    let mut input = [0u8; 8197];
-    let n = io::read_full(0, &mut input);
-    if n < 4 {
+// What is written for two rooms and a job.
+fn answer(input: &[u8]) {
+    if input.len() < 4 {
         refuse(1);
         return;
     }
-    if 8196 < n {
+    if 8196 < input.len() {
         too_long();
         return;
     }
     let u = 256 * fields::wide(input[0]) + fields::wide(input[1]);
     let v = 256 * fields::wide(input[2]) + fields::wide(input[3]);
     let mut out = letters::page();
-    let answer = tirunoiwa::tirunoiwa_turned(&input[4..n], u, v, &mut out);
+    let answer = tirunoiwa::tirunoiwa_turned(&input[4..], u, v, &mut out);
     show(answer, &out);
+}
+
+fn main() {
+    let mut input = [0u8; 8197];
+    let n = io::read_full(0, &mut input);
+    if streams::unread() {
+        return;
+    }
+    answer(&input[..n]);
+    streams::unwritten();
 }

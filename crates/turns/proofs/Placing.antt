@@ -30,6 +30,7 @@ tos-changed e s v k = go (eqb (e .to) v) refl
     go true q = let h : e .to ≡ v = eqb-true (e .to) v q in rw h
     go false q = refl
 
+-- an entry that names v has the new kind, and any other its own
 kinds-changed : (e : Entry) (s : Star) (v k : ℕ) → map kindIn (withKind (e ∷ s) v k) ≡ cond (eqb (e .to) v) k (e .kind) ∷ map kindIn (withKind s v k)
 unfolding withKind
 kinds-changed e s v k = go (eqb (e .to) v)
@@ -45,6 +46,7 @@ kind-then nbr kind k v new x y own ex eo ey = rw (← ex, ← eo) ey
 
 -- the entries of a part, put one by one: what is left to put, put, gives the whole
 module _ (o w nbr kind : List ℕ) (at from m i v new : ℕ) where
+  -- the next neighbour put, those behind it are left
   pub tos-more : (x : ℕ) → sets o (at + i) (map toOf (withKind (cells (m - i) (from + i) nbr kind) v new)) ≡ w → i < m → x ≡ toAt nbr (from + i)
       → sets (set o (at + i) x) (at + (i + 1)) (map toOf (withKind (cells (m - (i + 1)) (from + (i + 1)) nbr kind) v new)) ≡ w
   unfolding cells entryAt
@@ -55,6 +57,7 @@ module _ (o w nbr kind : List ℕ) (at from m i v new : ℕ) where
       let b = tos-changed (entryAt nbr kind (from + i)) (cells (m - (i + 1)) (suc (from + i)) nbr kind) v new in
       rw (e₁, e₂, ex) (rw (e₀, b) at inv)
 
+  -- the next kind put, those behind it are left
   pub kinds-more : (y : ℕ) → sets o (at + i) (map kindIn (withKind (cells (m - i) (from + i) nbr kind) v new)) ≡ w → i < m
       → y ≡ cond (eqb (toAt nbr (from + i)) v) new (getD kind (from + i) 0)
       → sets (set o (at + i) y) (at + (i + 1)) (map kindIn (withKind (cells (m - (i + 1)) (from + (i + 1)) nbr kind) v new)) ≡ w
@@ -66,12 +69,14 @@ module _ (o w nbr kind : List ℕ) (at from m i v new : ℕ) where
       let b = kinds-changed (entryAt nbr kind (from + i)) (cells (m - (i + 1)) (suc (from + i)) nbr kind) v new in
       rw (e₁, e₂, ey) (rw (e₀, b) at inv)
 
+  -- behind the last entry no neighbour is left to put
   pub tos-done : sets o (at + i) (map toOf (withKind (cells (m - i) (from + i) nbr kind) v new)) ≡ w → m ≤ i → o ≡ w
   unfolding cells withKind
   tos-done inv h =
       let e : m - i ≡ 0 = omega arith in
       rw e at inv
 
+  -- behind the last entry no kind is left to put
   pub kinds-done : sets o (at + i) (map kindIn (withKind (cells (m - i) (from + i) nbr kind) v new)) ≡ w → m ≤ i → o ≡ w
   unfolding cells withKind
   kinds-done inv h =
@@ -82,6 +87,7 @@ module _ (o w nbr kind : List ℕ) (at from m i v new : ℕ) where
 module _ (ends nbr kind : List ℕ) (i m n from v new : ℕ) (em : m ≡ endOf ends (length nbr) i - startOf ends (length nbr) i)
     (ef : from ≡ startOf ends (length nbr) i) (en : n ≡ shiftOf (heldStar ends nbr kind i) v new)
     (k : n ≤ endOf ends (length nbr) i - startOf ends (length nbr) i) where
+  -- the entries behind the first n, then those n, put from the star's start on, are the star with v's kind changed, put where it stands
   both-put : (f : Entry → ℕ) (o x y : List ℕ) → x ≡ sets o from (map f (withKind (cells (m - n) (from + n) nbr kind) v new))
       → y ≡ sets x (from + (m - n)) (map f (withKind (cells n from nbr kind) v new))
       → y ≡ sets o (startOf ends (length nbr) i) (map f (rekinded (heldStar ends nbr kind i) v new))
@@ -104,11 +110,13 @@ module _ (ends nbr kind : List ℕ) (i m n from v new : ℕ) (em : m ≡ endOf e
       maps [] b = refl
       maps (e ∷ a) b = ap (λ (l : List ℕ). f e ∷ l) (maps a b)
 
+  -- so for the neighbours
   pub both-tos : (o x y : List ℕ) → x ≡ sets o from (map toOf (withKind (cells (m - n) (from + n) nbr kind) v new))
       → y ≡ sets x (from + (m - n)) (map toOf (withKind (cells n from nbr kind) v new))
       → y ≡ sets o (startOf ends (length nbr) i) (map toOf (rekinded (heldStar ends nbr kind i) v new))
   both-tos = both-put toOf
 
+  -- so for the kinds
   pub both-kinds : (o x y : List ℕ) → x ≡ sets o from (map kindIn (withKind (cells (m - n) (from + n) nbr kind) v new))
       → y ≡ sets x (from + (m - n)) (map kindIn (withKind (cells n from nbr kind) v new))
       → y ≡ sets o (startOf ends (length nbr) i) (map kindIn (rekinded (heldStar ends nbr kind i) v new))
@@ -122,21 +130,26 @@ module _ (c : ℕ) (ends nbr kind : List ℕ) where
 
   -- 12, or the contact
   module _ (u v k : ℕ) (lu : 4 ≤ u) (ku : u < 4 + c) (lv : 4 ≤ v) (kv : v < 4 + c) (m : ℕ) (em : m ≡ length (listOf (heldStar ends nbr kind (u - 4)) k)) where
+    -- as many neighbours of kind k were counted as the star of u has
     first-list : length (listOf (starOf job u) k) ≡ m
     first-list = rw (room-held c ends nbr kind u lu ku) (sym em)
 
+    -- 12 where u has fewer than two of them
     pub swing-first : m < 2 → swingSaid (Stops 12) ≡ swingAt job u v k
     unfolding swingSaid swingAt allowed
     swing-first l = rw (first-list, lt-leb 2 m l)
 
     module _ (n s : ℕ) (lm : 2 ≤ m) (es : s ≡ opposite k) (en : n ≡ length (listOf (heldStar ends nbr kind (v - 4)) s)) where
+      -- as many neighbours of the opposite kind were counted as the star of v has
       second-list : length (listOf (starOf job v) (opposite k)) ≡ n
       second-list = rw (← es, room-held c ends nbr kind v lv kv) (sym en)
 
+      -- 12 where v has fewer than two of them
       pub swing-second : n < 2 → swingSaid (Stops 12) ≡ swingAt job u v k
       unfolding swingSaid swingAt allowed
       swing-second l = rw (first-list, le-leb 2 m lm, second-list, lt-leb 2 n l)
 
+      -- else the contact turns, to the kind that it takes by whether v is last of u's list
       pub swing-turns : (last : Bool) (t : ℕ) → 2 ≤ n → last ≡ isLast v (listOf (heldStar ends nbr kind (u - 4)) k) → t ≡ turnedKind k last
           → swingSaid (Swings u v t) ≡ swingAt job u v k
       unfolding swingSaid swingAt allowed
@@ -144,21 +157,25 @@ module _ (c : ℕ) (ends nbr kind : List ℕ) where
 
   -- 11, or the contact seen from the one room or the other
   module _ (u v : ℕ) (b : Bool) (eb : b ≡ inContact job u v) where
+    -- 11 where the two are not rooms in contact
     pub swing-none : not b ≡ true → swingSaid (Stops 11) ≡ swingOf job u v
     unfolding swingSaid swingOf allowed
     swing-none t = rw (← eb, not-true b t)
 
     module _ (f : not b ≡ false) (k : ℕ) (ek : k ≡ kindOf (heldStar ends nbr kind (u - 4)) v) (a : Bool) (ea : a ≡ (eqb k 0 || eqb k 3)) (r : Said) where
+      -- of two rooms in contact, it goes by the kind with which the first names the second
       seen : swingOf job u v ≡ swingFrom a job u v k
       unfolding swingOf allowed
       seen =
           let (lu, ku, _, _) = met-rooms c ends nbr kind u v b eb f in
           rw (← eb, not-false b f, room-held c ends nbr kind u lu ku, ← ek, ← ea)
 
+      -- v above u or to its right: seen from u
       pub swing-from-first : a ≡ true → swingSaid r ≡ swingAt job u v k → swingSaid r ≡ swingOf job u v
       unfolding swingFrom
       swing-from-first t p = rw (seen, t) p
 
+      -- v of any other kind at u: seen from v, with the opposite kind
       pub swing-from-second : a ≡ false → (s : ℕ) → s ≡ opposite k → swingSaid r ≡ swingAt job v u s → swingSaid r ≡ swingOf job u v
       unfolding swingFrom
       swing-from-second t s es p = rw (seen, t, ← es) p
@@ -167,6 +184,7 @@ module _ (c : ℕ) (ends nbr kind : List ℕ) where
 stops-not : {X : Type 0} {k a b t : ℕ} → stops k ≡ swings a b t → X
 stops-not {X} {k} {a} {b} {t} e = let z : _≡_ {A = ℕ} 0 1 = cc in absurd (omega arith)
 
+-- seen from one of two rooms, the contact that turns is one of two rooms
 at-rooms : (j : Job) (u v k a b t : ℕ) → Rooms (length j) u v → swingAt j u v k ≡ swings a b t → Rooms (length j) a b
 unfolding swingAt allowed
 at-rooms j u v k a b t r e = go (leb 2 (length (listOf (starOf j u) k)) && leb 2 (length (listOf (starOf j v) (opposite k)))) e
@@ -175,6 +193,7 @@ at-rooms j u v k a b t r e = go (leb 2 (length (listOf (starOf j u) k)) && leb 2
     go true e = let p : u ≡ a = cc in let q : v ≡ b = cc in rw (← p, ← q) r
     go false e = stops-not e
 
+-- whichever is named first, the contact that turns is one of two rooms
 pub of-rooms : (j : Job) (u v a b t : ℕ) → swingOf j u v ≡ swings a b t → Rooms (length j) a b
 unfolding swingOf allowed swingFrom
 of-rooms j u v a b t e = go (inContact j u v) refl e
@@ -197,18 +216,22 @@ Promised c ends nbr kind u v tos kinds r x y =
 
 -- nothing turns, or both stars are put anew
 module _ (c : ℕ) (ends nbr kind : List ℕ) (u v : ℕ) (r : Said) (er : swingSaid r ≡ swingOf (jobIn c ends nbr kind) u v) where
+  -- a refusal leaves both lists as they were
   pub turns-not : (k : ℕ) (tos kinds : List ℕ) → r ≡ Stops k → Promised c ends nbr kind u v tos kinds (Stops k) tos kinds
   unfolding turnedIn swungIn swingSaid
   turns-not k tos kinds e = (sym (ap swingSaid e) ∙ er, rw (← er, e), rw (← er, e))
 
   module _ (a b t : ℕ) (e : r ≡ Swings a b t) where
+    -- the two that turn are rooms
     rooms : Rooms c a b
     unfolding swingSaid
     rooms = rw (length-stars c 0 ends nbr kind) at (of-rooms (jobIn c ends nbr kind) u v a b t (sym er ∙ ap swingSaid e))
 
+    -- the first is no side of the frame
     pub first-low : 4 ≤ a
     first-low = rooms .0
 
+    -- the second is no side of the frame
     pub second-low : 4 ≤ b
     second-low = rooms .2
 
@@ -216,12 +239,14 @@ module _ (c : ℕ) (ends nbr kind : List ℕ) (u v : ℕ) (r : Said) (er : swing
     abbrev Put : (Entry → ℕ) → List ℕ → List ℕ → ℕ → ℕ → ℕ → Type 0
     Put f o x m n s = x ≡ sets o (startOf ends (length nbr) (m - 4)) (map f (rekinded (heldStar ends nbr kind (m - 4)) n s))
 
+    -- the one star put anew, then the other, are the numbers with the contact turned in them
     both-so : (s : ℕ) (f : Entry → ℕ) (o x y : List ℕ) → s ≡ opposite t → Put f o x a b t → Put f x y b a s → y ≡ turnedIn f o c ends nbr kind u v
     unfolding turnedIn swungIn swingSaid bothPut
     both-so s f o x y es ex ey =
         let (la, ka, lb, kb) = rooms in
         rw (← er, e, room-held c ends nbr kind a la ka, room-held c ends nbr kind b lb kb, ← es, ← ex) ey
 
+    -- both stars put anew in both lists are what is promised
     pub turns-so : (s : ℕ) (tos kinds x y p q : List ℕ) → Put toOf tos x a b t × Put kindIn kinds p a b t → s ≡ opposite t
         → Put toOf x y b a s × Put kindIn p q b a s → Promised c ends nbr kind u v tos kinds (Swings a b t) y q
     turns-so s tos kinds x y p q f es g = (sym (ap swingSaid e) ∙ er, both-so s toOf tos x y es (f .0) (g .0), both-so s kindIn kinds p q es (f .1) (g .1))

@@ -18,6 +18,7 @@ use Rattle.turns.specs.Rewrites.{shiftOf}
 pub kind-new : (to v new own : ℕ) → to ≡ v → new ≡ cond (eqb to v) new own
 kind-new to v new own e = rw (eq-eqb to v e)
 
+-- an entry that does not name v keeps its own kind
 pub kind-own : (to v new own : ℕ) → (to ≡ v → ⊥) → own ≡ cond (eqb to v) new own
 kind-own to v new own n = rw (ne-eqb to v n)
 
@@ -34,10 +35,12 @@ turned-round s v k =
     go false true c n = refl
     go false false c n = sym (append-nil c)
 
+-- a star with a kind changed where it stands has as many entries as before
 pub length-changed : (s : Star) (v k : ℕ) → length (withKind s v k) ≡ length s
 unfolding withKind
 length-changed s v k = length-map s _
 
+-- so has one whose entry also moves to the other end
 pub length-rekinded : (s : Star) (v k : ℕ) → length (rekinded s v k) ≡ length s
 length-rekinded s v k =
     let n : ℕ = shiftOf s v k in
@@ -51,18 +54,21 @@ take-changed zero s v k = refl
 take-changed (suc n) [] v k = refl
 take-changed (suc n) (e ∷ s) v k = rw (take-changed n s v k)
 
+-- the back part of a changed star is the back part of the star, changed
 pub drop-changed : (n : ℕ) (s : Star) (v k : ℕ) → drop n (withKind s v k) ≡ withKind (drop n s) v k
 unfolding withKind
 drop-changed zero s v k = refl
 drop-changed (suc n) [] v k = refl
 drop-changed (suc n) (e ∷ s) v k = drop-changed n s v k
 
+-- the first n of the entries from a place on are the n entries from there on
 pub take-cells : (n m k : ℕ) (nbr kind : List ℕ) → n ≤ m → take n (cells m k nbr kind) ≡ cells n k nbr kind
 unfolding cells
 take-cells zero m k nbr kind h = refl
 take-cells (suc n) zero k nbr kind h = absurd (omega arith)
 take-cells (suc n) (suc m) k nbr kind h = rw (take-cells n m (suc k) nbr kind (omega arith))
 
+-- those behind the first n are the entries from n places further on
 pub drop-cells : (n m k : ℕ) (nbr kind : List ℕ) → n ≤ m → drop n (cells m k nbr kind) ≡ cells (m - n) (k + n) nbr kind
 unfolding cells
 drop-cells zero m k nbr kind h = let a : m - 0 ≡ m = omega arith in let b : k + 0 ≡ k = omega arith in rw (a, b)
@@ -83,6 +89,7 @@ behind p l i (v ∷ vs) =
     put [] = let z : 0 + i ≡ i = omega arith in rw z
     put (x ∷ p) = let z : suc (length p) + i ≡ suc (length p + i) = omega arith in rw z (ap (λ (r : List ℕ). x ∷ r) (put p))
 
+-- numbers put over as many in front take their place, and what is behind stays
 pub in-front : (x y r : List ℕ) → length x ≡ length y → sets (x ++ r) 0 y ≡ y ++ r
 in-front x y r e =
     let k : 0 + length y ≤ length (x ++ r) = omega (arith, length-append x r) in

@@ -22,6 +22,7 @@ flat : (Entry → ℕ) → Job → List ℕ
 flat f [] = []
 flat f (s ∷ j) = map f s ++ flat f j
 
+-- as many numbers as the job has pairs
 length-flat : (f : Entry → ℕ) (j : Job) → length (flat f j) ≡ pairsIn j
 unfolding pairsIn sum flat
 length-flat f [] = refl
@@ -38,16 +39,19 @@ unfolding putAll putStar
 all-count h m [] = omega arith
 all-count h m (s ∷ j) = all-count (putStar h m s) (m + length s) j ∙ omega arith
 
+-- the ends of the job's stars, behind those that were there
 all-ends : (h : Stars) (m : ℕ) (j : Job) → putAll h m j .ends ≡ endsFrom (h .ends) (h .count) m j
 unfolding putAll putStar endsFrom
 all-ends h m [] = refl
 all-ends h m (s ∷ j) = all-ends (putStar h m s) (m + length s) j
 
+-- the neighbours of all its entries, from place m on
 all-nbr : (h : Stars) (m : ℕ) (j : Job) → putAll h m j .nbr ≡ sets (h .nbr) m (flat toOf j)
 unfolding putAll putStar flat
 all-nbr h m [] = refl
 all-nbr h m (s ∷ j) = all-nbr (putStar h m s) (m + length s) j ∙ rw (← length-map s toOf) (sym (sets-append (h .nbr) m (map toOf s) (flat toOf j)))
 
+-- the kinds of all its entries, from place m on
 all-kind : (h : Stars) (m : ℕ) (j : Job) → putAll h m j .kind ≡ sets (h .kind) m (flat kindIn j)
 unfolding putAll putStar flat
 all-kind h m [] = refl
@@ -60,6 +64,7 @@ ends-same e c m [] i s q = refl
 ends-same e c m (t ∷ j) zero s q = ap (λ (n : ℕ). endsFrom (set e c (m + n)) (c + 1) (m + n) j) q
 ends-same e c m (t ∷ j) (suc i) s q = ends-same (set e c (m + length t)) (c + 1) (m + length t) j i s q
 
+-- a star as long in another's stead: the number of pairs stays
 pairs-same : (j : Job) (i : ℕ) (s : Star) → length s ≡ length (getD j i []) → pairsIn (set j i s) ≡ pairsIn j
 unfolding pairsIn sum
 pairs-same [] i s q = refl
@@ -73,6 +78,7 @@ ends-below e c m k [] h = refl
 ends-below e c m k (s ∷ j) h =
     ends-below (set e c (m + length s)) (c + 1) (m + length s) k j (omega arith) ∙ getD-set-other e c k (m + length s) 0 (λ q. omega arith)
 
+-- star k ends behind the pairs of the first k + 1 stars, where the first starts at place m
 end-at : (e : List ℕ) (c m k : ℕ) (j : Job) → k < length j → c + length j ≤ length e → getD (endsFrom e c m j) (c + k) 0 ≡ m + pairsIn (take (suc k) j)
 unfolding pairsIn sum endsFrom
 end-at e c m k [] h l = absurd (omega arith)
@@ -84,6 +90,7 @@ end-at e c m (suc k) (s ∷ j) h l =
     let z : c + suc k ≡ c + 1 + k = omega arith in
     rw z (end-at (set e c (m + length s)) (c + 1) (m + length s) k j (omega arith) (omega (arith, length-set e c (m + length s))) ∙ omega arith)
 
+-- the first stars have no more pairs than all of them
 pairs-before : (j : Job) (i : ℕ) → pairsIn (take i j) ≤ pairsIn j
 unfolding pairsIn sum
 pairs-before [] zero = omega arith
@@ -91,11 +98,13 @@ pairs-before [] (suc i) = omega arith
 pairs-before (s ∷ j) zero = omega arith
 pairs-before (s ∷ j) (suc i) = omega (arith, pairs-before j i)
 
+-- no stars have no pairs
 none-before : pairsIn [] ≡ 0
 unfolding pairsIn sum
 none-before = refl
 
 module _ (j : Job) (few : length j ≤ 60) (small : pairsIn j ≤ 360) where
+  -- of a job that is held, star i starts behind the pairs of the stars before it
   held-start : (i : ℕ) → i < length j → startOf (heldOf j .ends) (length (heldOf j .nbr)) i ≡ pairsIn (take i j)
   unfolding heldOf noStars startOf endOf
   held-start zero h = sym none-before
@@ -122,6 +131,7 @@ over-flat f (t ∷ j) (suc i) s rest h q =
     rw (append-assoc (map f t) (flat f j) rest, append-assoc (map f t) (flat f (set j i s)) rest, ← length-map t f)
     (behind (map f t) (flat f j ++ rest) (pairsIn (take i j)) (map f s) ∙ rw (over-flat f j i s rest (omega arith) q))
 
+-- a star's numbers put where star i of the job stands: the numbers of the job with that star, put at the front
 over-held : (f : Entry → ℕ) (j : Job) (i : ℕ) (s : Star) (z : List ℕ) → pairsIn j ≤ length z → i < length j → length s ≡ length (getD j i [])
     → sets (sets z 0 (flat f j)) (pairsIn (take i j)) (map f s) ≡ sets z 0 (flat f (set j i s))
 over-held f j i s z l h q =
@@ -134,6 +144,7 @@ over-held f j i s z l h q =
     front : (x : List ℕ) → length x ≤ length z → sets z 0 x ≡ x ++ drop (length x) z
     front x k = let e : 0 + length x ≡ length x = omega arith in sets-eq x z 0 (omega arith) ∙ rw e
 
+-- stars with the same count, ends, neighbours and kinds are one
 same-stars : (c c′ : ℕ) (e e′ n n′ k k′ : List ℕ) → c ≡ c′ → e ≡ e′ → n ≡ n′ → k ≡ k′
     → _≡_ {A = Stars} (record { count = c; ends = e; nbr = n; kind = k }) (record { count = c′; ends = e′; nbr = n′; kind = k′ })
 same-stars c c′ e e′ n n′ k k′ p q r s = rw (p, q, r, s)
@@ -164,6 +175,7 @@ held-put j i s few small h q =
 
 -- BOTH STARS OF A CONTACT
 module _ (j : Job) (few : length j ≤ 60) (small : pairsIn j ≤ 360) (back : jobOf (heldOf j) ≡ j) where
+  -- the stars of two rooms of a held job, put anew where they stand, are those of the turned job
   held-two : (a b t : ℕ) → 4 ≤ a → a < 4 + length j → 4 ≤ b → b < 4 + length j → twoPut (heldOf j) a b t ≡ heldOf (twoTurned j a b t)
   unfolding twoTurned starOf
   held-two a b t la ka lb kb =

@@ -49,6 +49,7 @@ pub record TextNumbers (j : Job) (w : Walls) : Type 0 where
   pub most-upright : (s : ℕ) → f s ≤ 1 + length j
   pub most-level : (s : ℕ) → g s ≤ 1 + length j
 
+-- walls that run in a circle are not numbered
 not-round : Round ≡ Numbered → ⊥
 not-round e = let z : _≡_ {A = ℕ} 0 1 = cc in omega arith
 
@@ -63,6 +64,7 @@ pub record Counted (j : Job) (w : Walls) : Type 0 where
   pub reads : Reads w (length j + 4) (at xs) (at ys)
 
 module _ (j : Job) where
+  -- where the test says that every neighbour is a vertex of the job, every neighbour is
   vertices-named : vertices j ≡ true → Named j
   unfolding vertices isVertex
   vertices-named h i l e m =
@@ -85,6 +87,7 @@ module _ (j : Job) where
       go true x false y q = absurd (nothing q)
       go true x true y q = (x, y, subst (Right (rules a j) (2 * (length j + 4))) q (jobNumbers-right a j (vertices-named y)) .1)
 
+  -- numbers of every side, with noughts behind them, are read at each side as they are
   at-place : (u : List ℕ) → length u ≡ 2 * (length j + 4) → (s : ℕ) → s < 2 * (length j + 4) → getD (placed u) s 0 ≡ at u s
   at-place u l s h = List·getD-append u (drop (length u) noughts) 0 s (omega arith) ∙ at-getD u s (omega arith)
 
@@ -130,6 +133,7 @@ module _ (j : Job) where
       go (some u) p (some v) q e = absurd (not-round (sym e))
 
 module _ (j : Job) (rooms : test2 (length j) ≡ true) (ok : Passes j) where
+  -- every neighbour of a job past tests 1 to 6 is a vertex
   all-vertices : vertices j ≡ true
   unfolding vertices isVertex
   all-vertices = all-at (all (λ (e : Entry). leb (e .to) (length j + 3))) j []
@@ -141,10 +145,12 @@ module _ (j : Job) (rooms : test2 (length j) ≡ true) (ok : Passes j) where
   unfolding numbersIn
   by-definition a = rw (rooms, all-vertices)
 
+  -- the walls of a job past tests 1 to 6 are those by the numbers of the definition
   pub walls-are : wallsOf j ≡ wallsFrom (jobNumbers upright j) (jobNumbers level j)
   unfolding wallsOf
   walls-are = rw (by-definition upright, by-definition level)
 
+  -- these are right: the numbers by the text, one for each side, or none where the walls run in a circle
   right : (a : Axis) → Right (rules a j) (2 * (length j + 4)) (jobNumbers a j)
   right a = jobNumbers-right a j (to-vertex j ok)
 
@@ -169,6 +175,7 @@ module _ (j : Job) (rooms : test2 (length j) ≡ true) (ok : Passes j) where
       back (some u) (some v) x y (inl c) = absurd (c (at u) (numbers-respects (rules upright j) (at u) (x .0)))
       back (some u) (some v) x y (inr c) = absurd (c (at v) (numbers-respects (rules level j) (at v) (y .0)))
 
+  -- an answer is refusal 7 exactly if it says that the walls run in a circle
   refused-round : (a : Answer) → (refusalOf a ≡ some 7) ↔ (a ≡ Round)
   unfolding refusalOf
   refused-round Numbered = (λ e. absurd (let z : _≡_ {A = ℕ} 0 1 = cc in omega arith), λ e. absurd (not-round (sym e)))

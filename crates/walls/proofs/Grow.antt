@@ -14,10 +14,12 @@ use Rattle.floor.specs.Walls.Walk.{Walk, on, off, up}
 use Rattle.floor.specs.Walls.Relax.{raise-is, raise-more, raise-reached, length-raise}
 use Rattle.walls.specs.Steps.{Lifts, Ran, Grew, ruleOf}
 
+-- setting b to w above a, where it stands lower, is raising it to at least w above a
 lift-is-raise : (f : List ℕ) (a b w : ℕ) → at f b < at f a + w → set f b (at f a + w) ≡ raise f a b w
 unfolding raise
 lift-is-raise f a b w h = ap (λ (v : ℕ). set f b v) (omega arith)
 
+-- a lift not past the top, along a step that every walk can take, raises the numbers by the rules
 lift-grew : (E : List Rule) (f : List ℕ) (a b w top : ℕ) → b < length f → at f b < at f a + w → at f a + w ≤ top
     → ((v : ℕ) → Walk E a v → Walk E b (v + w)) → Grew E f (set f b (at f a + w)) top
 lift-grew E f a b w top l h t step = rw (lift-is-raise f a b w h) (record {
@@ -32,6 +34,7 @@ lift-grew E f a b w top l h t step = rw (lift-is-raise f a b w h) (record {
     under c s (inl e) = omega (arith, c s)
     under c s (inr e) = omega arith
 
+-- numbers that respect a rule respect the list of that rule alone
 one-holds : (g : ℕ → ℕ) (r : Rule) → Holds g r → Respects (r ∷ []) g
 one-holds g r h q (List·Memᴰ·head e) = rw e h
 
@@ -50,6 +53,7 @@ ran-raised f f′ a b zero top p l h =
     λ E m. rw (h .0) (lift-grew E f a b 0 top l (h .1) (h .2) (λ v w. rw add-zero (on (m (same a b) (List·Memᴰ·head refl)) w)))
 ran-raised f f′ a b (suc x) top p l h = absurd (omega arith)
 
+-- a joining rule: the lift up, where that would pass the top
 pub ran-over : (f f′ : List ℕ) (a b w top : ℕ) → w ≤ 0 → Lifts Over f f′ a b w top → Ran Over (ruleOf a b w ∷ []) f f′ top
 ran-over f f′ a b zero top p h =
     λ E m k. record { side = b; count = at f a; walk = on (m (same a b) (List·Memᴰ·head refl)) (k a); more = omega (arith, h .1) }

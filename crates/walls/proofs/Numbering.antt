@@ -26,6 +26,7 @@ use Rattle.walls.specs.declared.Walls.{Walls}
 use Rattle.walls.proofs.Visiting.{all-named}
 
 module _ {A : Type 0} where
+  -- tests that agree on every member agree on whether all pass
   all-same : (p q : A → Bool) (xs : List A) → ((x : A) → p x ≡ q x) → all p xs ≡ all q xs
   unfolding all
   all-same p q [] h = refl
@@ -49,61 +50,76 @@ noughts-behind (suc n) zero h = absurd (omega arith)
 noughts-behind (suc n) (suc m) h = ap (λ (l : List ℕ). 0 ∷ l) (noughts-behind n m (omega arith))
 
 module _ (ends nbr kind : List ℕ) (n : ℕ) where
+  -- the job of the held stars
   abbrev job : Job
   job = jobIn n ends nbr kind
 
+  -- whether it can be numbered: as many rooms as test 2 allows, and every neighbour a vertex
   abbrev good : Bool
   good = test2 (length job) && vertices job
 
+  -- a job that cannot be numbered has no numbers, and noughts are held
   pub held-none : (b : Bool) (a : Axis) (l : List ℕ) → b ≡ good → not b ≡ true → l ≡ replicate 128 0
       → record { found = false; list = l } ≡ numbersHeld (numbersIn a job)
   unfolding numbersHeld numbersIn
   held-none b a l q f e = let g : good ≡ false = sym q ∙ not-true b f in rw (g, e)
 
+  -- the job has as many rooms as stars are held
   held-rooms : length job ≡ n
   held-rooms = length-stars n 0 ends nbr kind
 
+  -- without rooms it cannot be numbered
   pub no-room : n ≡ 0 → false ≡ good
   unfolding test2
   no-room z = rw (held-rooms, z)
 
+  -- with more than 60 rooms it cannot be numbered
   pub many-rooms : 60 < n → false ≡ good
   unfolding test2
   many-rooms z = rw (held-rooms, le-leb 1 n (omega arith), lt-leb n 60 z)
 
+  -- with 1 to 60 rooms it can be numbered exactly if every neighbour has its sides among those of the vertices
   pub some-rooms : (r : Bool) → (n ≡ 0 → ⊥) → n ≤ 60 → r ≡ named (2 * (n + 4)) job → r ≡ good
   unfolding test2
   some-rooms r x y q =
       rw (vertices-named job, held-rooms, le-leb 1 n (omega arith), le-leb n 60 y) q
 
   module _ (b : Bool) (q : b ≡ good) (no : not b ≡ false) where
+    -- the job can be numbered
     both-good : good ≡ true
     both-good = sym q ∙ not-false b no
 
+    -- it has at most 60 rooms
     pub rooms-fit : n ≤ 60
     unfolding test2
     rooms-fit =
         let t : test2 (length job) ≡ true = and-left (test2 (length job)) (vertices job) both-good in
         omega (arith, held-rooms, leb-true (length job) 60 (and-right (leb 1 (length job)) (leb (length job) 60) t))
 
+    -- their number is one of two bytes, with room for one more
     pub rooms-few : n < 65535
     rooms-few = omega (arith, rooms-fit)
 
+    -- 128 places are enough for all its sides
     pub rooms-hold : (l : List ℕ) → l ≡ replicate 128 0 → 2 * (n + 4) ≤ length l
     rooms-hold l e′ = rw e′ (omega (arith, rooms-fit, length-replicate {A = ℕ} 128 0))
 
+    -- every neighbour has its sides among those of the vertices
     pub all-vertices : named (2 * (n + 4)) job ≡ true
     all-vertices =
         let v : vertices job ≡ true = and-right (test2 (length job)) (vertices job) both-good in
         rw held-rooms at (sym (vertices-named job) ∙ v)
 
+    -- the job's numbers are those of the definition
     one-way : (a : Axis) → numbersIn a job ≡ jobNumbers a job
     unfolding numbersIn
     one-way a = rw both-good
 
+    -- these are right: the numbers by the text, one for each side, or none where the walls run in a circle
     right : (a : Axis) → Right (rules a job) (2 * (n + 4)) (jobNumbers a job)
     right a = rw held-rooms at (jobNumbers-right a job (all-named (2 * (n + 4)) job all-vertices (omega (arith, held-rooms))))
 
+    -- the answer, left in front of noughts, is the numbers of that direction as they are held
     pub held-numbers : (a : Axis) (r : Bool) (l l′ : List ℕ) → l ≡ replicate 128 0 → Fronts r (rules a job)
         (2 * (n + 4)) l l′
         → record { found = r; list = l′ } ≡ numbersHeld (numbersIn a job)
@@ -123,9 +139,11 @@ module _ (ends nbr kind : List ℕ) (n : ℕ) where
 pub front-length : (n : ℕ) (l : List ℕ) → n ≤ length l → n ≡ length (take n l)
 front-length n l h = sym (length-take-le n l h)
 
+-- neighbours that have their sides among n have them among the first n numbers of a list
 pub front-named : (n : ℕ) (l : List ℕ) (j : Job) → n ≤ length l → named n j ≡ true → named (length (take n l)) j ≡ true
 front-named n l j h e = rw (length-take-le n l h) e
 
+-- the answer of the first n numbers, before what stands behind them, is the answer in front of the list
 pub front-answers : (b : Bool) (E : List Rule) (n : ℕ) (l f : List ℕ) → n ≤ length l → Answers b E f (length (take n l)) → Fronts b E n l (f ++ drop n l)
 front-answers b E n l f h a = record { front = f; answers = rw (length-take-le n l h) at a; is = refl }
 
@@ -143,12 +161,14 @@ unfolding numbersHeld wallsFrom
 first-none none b x w p f e = e
 first-none (some u) b x w p f e = absurd (let z : _≡_ {A = ℕ} 0 1 = cc (rw p at f) in omega arith)
 
+-- the second has none: the walls are without numbers
 pub second-none : (a b : Option (List ℕ)) (y : Numbers) (w : Walls) → y ≡ numbersHeld b → not (y .found) ≡ true → w ≡ noWalls → w ≡ wallsFrom a b
 unfolding numbersHeld wallsFrom
 second-none none b y w q f e = e
 second-none (some u) none y w q f e = e
 second-none (some u) (some v) y w q f e = absurd (let z : _≡_ {A = ℕ} 0 1 = cc (rw q at f) in omega arith)
 
+-- noughts in both directions, and that the walls run in a circle, are the walls without numbers
 pub no-numbers : (l : List ℕ) → l ≡ replicate 128 0 → _≡_ {A = Walls} (record {
   answer = Circle;
   uprights = record { 0 = l };

@@ -9,6 +9,7 @@ use Rattle.walls.specs.declared.Step.the-variants.{Kept, Raised, Over}
 use Rattle.floor.specs.Walls.{Rule, Holds, Respects, at}
 use Rattle.walls.specs.Steps.{Grew, Rose, Among, Ran, Climbs, both}
 
+-- numbers that were raised, and raised again, were raised
 grew-trans : {E : List Rule} {f f₁ f′ : List ℕ} {top : ℕ} → Grew E f f₁ top → Grew E f₁ f′ top → Grew E f f′ top
 grew-trans p q = record {
   len = q .len ∙ p .len;
@@ -17,6 +18,7 @@ grew-trans p q = record {
   capped = λ c. q .capped (p .capped c);
 }
 
+-- numbers that respect the rules of two lists respect all of them together
 respects-append : (D D′ : List Rule) (g : ℕ → ℕ) → Respects D g → Respects D′ g → Respects (D ++ D′) g
 respects-append D D′ g x y r m = go (List·Memᴰ·append-cases D m)
   where
@@ -26,12 +28,15 @@ respects-append D D′ g x y r m = go (List·Memᴰ·append-cases D m)
 
 -- THE RULES OF TWO LISTS, run one list after the other
 module _ (D D′ : List Rule) (f f₁ f₂ : List ℕ) (top : ℕ) where
+  -- where the rules of both are among those of E, those of the first are
   left : (E : List Rule) → Among (D ++ D′) E → Among D E
   left E i r m = i r (Memᴰ·append-left D′ m)
 
+  -- where the rules of both are among those of E, those of the second are
   right : (E : List Rule) → Among (D ++ D′) E → Among D′ E
   right E i r m = i r (Memᴰ·append-right D m)
 
+  -- together they did what the first did and then the second
   pub ran-both : (s t : Step) → Ran s D f f₁ top → Ran t D′ f₁ f₂ top → Ran (both s t) (D ++ D′) f f₂ top
   ran-both Kept Kept p q = (q .0 ∙ p .0, respects-append D D′ (at f) (p .1) (rw (p .0) at (q .1)))
   ran-both Kept Raised p q = λ E i. rw (p .0) at (q E (right E i))
@@ -45,9 +50,11 @@ module _ (D D′ : List Rule) (f f₁ f₂ : List ℕ) (top : ℕ) where
 abbrev pub Going : Step → List Rule → List Rule → List ℕ → List ℕ → ℕ → Type 0
 Going s D W f₀ f top = (t : Step) (f′ : List ℕ) → Ran t D f f′ top → Ran (both s t) W f₀ f′ top
 
+-- at the start all the rules are left
 pub going-start : (W : List Rule) (f : List ℕ) (top : ℕ) → Going Kept W W f f top
 going-start W f top t f′ r = r
 
+-- of three steps it does not matter which two are taken together
 both-assoc : (s t u : Step) → both (both s t) u ≡ both s (both t u)
 both-assoc Kept t u = refl
 both-assoc Raised Kept u = refl
@@ -57,6 +64,7 @@ both-assoc Raised Raised Over = refl
 both-assoc Raised Over u = refl
 both-assoc Over t u = refl
 
+-- a step that does nothing adds nothing to the one before
 both-kept : (s : Step) → both s Kept ≡ s
 both-kept Kept = refl
 both-kept Raised = refl
@@ -71,6 +79,7 @@ going-next s t D D′ W f₀ f f₁ top g p u f′ q = rw (both-assoc s t u) (g 
 pub going-done : (s : Step) (W : List Rule) (f₀ f : List ℕ) (top : ℕ) → Going s [] W f₀ f top → Ran s W f₀ f top
 going-done s W f₀ f top g = rw (both-kept s) at (g Kept f (refl, λ r m. elim m [ ]))
 
+-- numbers that were raised or stayed, twice over, were raised or stayed
 rose-trans : {E : List Rule} {f₀ f f′ : List ℕ} {top : ℕ} → Rose E f₀ f top → Rose E f f′ top → Rose E f₀ f′ top
 rose-trans p g = record { len = g .len ∙ p .len; reach = λ k. g .reach (p .reach k); capped = λ c. g .capped (p .capped c) }
 

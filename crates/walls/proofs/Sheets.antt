@@ -15,14 +15,17 @@ use Rattle.walls.specs.Numbers.{sidesAt, sheetAt}
 pub no-vertex : (l : List ℕ) (v on : ℕ) → length l ≤ v → 0 ≡ getD l (2 * v + on) 0
 no-vertex l v on h = sym (List·getD-eq-default l 0 (omega arith))
 
+-- a side behind the end of the list has number 0
 pub no-side : (l : List ℕ) (v on : ℕ) → length l ≤ 2 * v + on → 0 ≡ getD l (2 * v + on) 0
 no-side l v on h = sym (List·getD-eq-default l 0 h)
 
+-- the four numbers read for v are those of the walls on its four sides
 pub four-sides : (xs ys : List ℕ) (v x y z u : ℕ) → x ≡ getD xs (2 * v + 0) 0 → y ≡ getD xs (2 * v + 1) 0 → z ≡ getD ys (2 * v + 0) 0
     → u ≡ getD ys (2 * v + 1) 0
     → _≡_ {A = Sides} (record { left = record { 0 = x }; right = record { 0 = y }; lower = record { 0 = z }; upper = record { 0 = u } }) (sidesAt xs ys v)
 four-sides xs ys v x y z u a b c d = let e : 2 * v + 0 ≡ 2 * v = omega arith in rw (rw e at a, b, rw e at c, d)
 
+-- the number of E's left wall plus 1 and that of N's bottom wall plus 1 make the sheet
 pub the-sheet : (xs ys : List ℕ) (e n : Sides) (x y : ℕ) → e ≡ sidesAt xs ys 3 → n ≡ sidesAt xs ys 0 → x ≡ e .left .0 → y ≡ n .lower .0
     → _≡_ {A = Sheet} (record { width = x + 1; height = y + 1 }) (sheetAt xs ys)
 the-sheet xs ys e n x y p q a b = rw (a, b, p, q)

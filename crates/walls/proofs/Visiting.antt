@@ -27,10 +27,12 @@ climbs-none E f top = record { len = refl; reach = λ k. k; capped = λ c. c }
 
 -- every neighbour of a job with so many sides is a vertex
 module _ (m : ℕ) (j : Job) (b : named m j ≡ true) where
+  -- each entry's neighbour has its sides among them
   pub named-entry : (i : ℕ) → i < length j → (e : Entry) → List·Memᴰ e (getD j i []) → high (e .to) < m
   unfolding named starNamed
   named-entry i h e q = ltb-true (high (e .to)) m (all-mem (entryNamed m) (getD j i []) (all-mem (starNamed m) j b (getD j i []) (mem-getD j i [] h)) e q)
 
+  -- with two sides for each vertex of the job, each entry's neighbour is a vertex
   pub all-named : m ≡ 2 * (length j + 4) → Named j
   all-named q i h e p = omega (arith, named-entry i h e p)
 
@@ -46,10 +48,12 @@ cells-mem nbr kind (suc n) from k l h = go (ℕ-discrete k from) (λ a. cells-me
     go (no e) later = List·Memᴰ·tail (later (omega arith))
 
 module _ (ends nbr kind : List ℕ) (n : ℕ) where
+  -- the job of the held stars
   abbrev job : Job
   job = jobIn n ends nbr kind
 
   module _ (i k : ℕ) (h : i < n) (lf : startOf ends (length nbr) i ≤ k) (le : k < endOf ends (length nbr) i) where
+    -- the entry at a place between the start and the end of star i is one of the star's
     here : List·Memᴰ (entryAt nbr kind k) (getD job i [])
     unfolding heldStar
     here =
@@ -57,10 +61,12 @@ module _ (ends nbr kind : List ℕ) (n : ℕ) where
         rw (star-in n 0 i ends nbr kind h, z)
         (cells-mem nbr kind (endOf ends (length nbr) i - startOf ends (length nbr) i) (startOf ends (length nbr) i) k lf (omega arith))
 
+    -- its neighbour has its sides among so many, where every neighbour of the job does
     pub visit-named : (m v x : ℕ) → named m job ≡ true → v ≡ toAt nbr k → x ≡ m → high v < x
     unfolding entryAt
     visit-named m v x b e q = rw (e, q) (named-entry m job b i (omega (arith, length-stars n 0 ends nbr kind)) (entryAt nbr kind k) here)
 
+    -- its rules are among those of the job
     among : (w : Direction) → Among (entryRules (axisOf w) (4 + i) (entryAt nbr kind k)) (rules (axisOf w) job)
     among w =
         let t : Told (λ r. List·Memᴰ r (rules (axisOf w) job)) (axisOf w) 4 job = every-told (λ r. List·Memᴰ r (rules (axisOf w) job)) (axisOf w) 4 job
@@ -68,12 +74,14 @@ module _ (ends nbr kind : List ℕ) (n : ℕ) where
         entry-every (λ r. List·Memᴰ r (rules (axisOf w) job)) (axisOf w) (4 + i) (entryAt nbr kind k)
         (t .each i (omega (arith, length-stars n 0 ends nbr kind)) (entryAt nbr kind k) here)
 
+    -- its rules, run, are some rules of the job run
     pub visit-climbs : (w : Direction) (s : Step) (f f′ : List ℕ) (top v x : ℕ) → v ≡ toAt nbr k → x ≡ getD kind k 0
         → Ran s (entryRules (axisOf w) (4 + i) (pair v x)) f f′ top → Climbs s (rules (axisOf w) job) f f′ top
     unfolding entryAt
     visit-climbs w s f f′ top v x ev ex p =
         ran-climbs (entryRules (axisOf w) (4 + i) (entryAt nbr kind k)) (rules (axisOf w) job) f f′ top s (among w) (rw (ev, ex) at p)
 
+  -- a room's own rule, run, is some rule of the job run
   pub own-climbs : (w : Direction) (i : ℕ) (s : Step) (f f′ : List ℕ) (top : ℕ) → i < n → Ran s (before (low (4 + i)) (high (4 + i)) 0 ∷ []) f f′ top
       → Climbs s (rules (axisOf w) job) f f′ top
   own-climbs w i s f f′ top h p =
@@ -95,6 +103,7 @@ climbs-more E f f₁ f₂ top s t r p q e = rw e (climbs-both E f f₁ f₂ top 
 pub place-low : (ends : List ℕ) (most i start k : ℕ) → start ≡ startOf ends most i → start ≤ k → startOf ends most i ≤ k
 place-low ends most i start k e h = rw (← e) h
 
+-- a place before the end that was read is before the star's end
 pub place-high : (ends : List ℕ) (most i end k : ℕ) → end ≡ endOf ends most i → k < end → k < endOf ends most i
 place-high ends most i end k e h = rw (← e) h
 

@@ -164,7 +164,9 @@ fn compare_pictures(options: &Options, table: &mut Table) -> bool {
         let job = listing_job(&mut chance, round);
         let expected = listing_text(&mut Board::empty(), &job);
         table.count_picture(&expected);
-        let found = picture::listing_shown(&options.under_test.picture(&job));
+        let name = picture_name(&mut chance);
+        let shown = options.under_test.picture(&name, &job);
+        let found = picture::listing_shown(&shown, &name, &job);
         if found.as_ref() != Ok(&expected) {
             println!("difference in a picture of {} bytes:", job.len());
             println!("  {}", hex(&job));
@@ -173,6 +175,21 @@ fn compare_pictures(options: &Options, table: &mut Table) -> bool {
         }
     }
     true
+}
+
+/// No name, a plain one, or bytes of any kind, which are no text or mean something to a picture.
+fn picture_name(chance: &mut Chance) -> Vec<u8> {
+    const KINDS: [&str; 4] = [
+        "floor.job",
+        "a<b>&amp;\"'.job",
+        "Süd-Magazin ½ 倉庫.job",
+        "",
+    ];
+    let mut name = chance.pick(&KINDS).as_bytes().to_vec();
+    if chance.percent(30) {
+        name.extend((0..chance.below(60)).map(|_| chance.byte()));
+    }
+    name
 }
 
 fn listing_job(chance: &mut Chance, round: usize) -> Vec<u8> {

@@ -1,8 +1,11 @@
-//! The listing that a picture shows: every rectangle read back from its ground, its outline, its title and its label, which have to agree.
+//! The listing that a picture shows: every rectangle read back from its ground, its outline, its title and its label, which have to agree; and
+//! what else a picture owes: everything inside it, neighbours in different tints, every line numbered at both ends, and the job it shows.
 
-const CELL: usize = 20;
-const LEFT: usize = 48;
-const TOP: usize = 16;
+const TOP: usize = 68;
+const MARGIN: usize = 40;
+const WORDS_ROOM: usize = 480;
+const FRAME: &str = "#dcdcdc";
+const NAME_TAG: u8 = b'n';
 const SIDES: [(&str, &str); 4] = [
     ("north side", "N"),
     ("west side", "W"),
@@ -10,13 +13,76 @@ const SIDES: [(&str, &str); 4] = [
     ("east side", "E"),
 ];
 
+/// Where a sheet stands in its picture.
+struct Sheet {
+    width: usize,
+    height: usize,
+    cell: usize,
+    left: usize,
+}
+
+impl Sheet {
+    fn new(width: usize, height: usize) -> Sheet {
+        let cell = match width.max(height) {
+            0..=6 => 80,
+            7..=8 => 60,
+            9..=12 => 40,
+            13..=16 => 30,
+            17..=20 => 24,
+            _ => 20,
+        };
+        let left = MARGIN + WORDS_ROOM.saturating_sub(width * cell) / 2;
+        Sheet {
+            width,
+            height,
+            cell,
+            left,
+        }
+    }
+
+    fn across(&self, x: usize) -> usize {
+        self.left + self.cell * x
+    }
+
+    fn down(&self, y: usize) -> usize {
+        TOP + self.cell * (self.height - y)
+    }
+
+    /// How large the whole picture is.
+    fn size(&self) -> (usize, usize) {
+        (self.across(self.width) + self.left, self.down(0) + 76)
+    }
+}
+
+/// A text on the picture: where its middle stands, how large it is, and what it says.
+#[derive(Clone, Debug, PartialEq, Eq, PartialOrd, Ord)]
+struct Words {
+    x: usize,
+    y: usize,
+    size: usize,
+    says: String,
+}
+
+/// A name in front of a job, as the program that draws takes it.
+pub fn with_name(name: &[u8], job: &[u8]) -> Vec<u8> {
+    let length = u16::try_from(name.len()).expect("a short name");
+    let mut bytes = vec![NAME_TAG];
+    bytes.extend(length.to_be_bytes());
+    bytes.extend(name);
+    bytes.extend(job);
+    bytes
+}
+
 /// A text that is no picture stands for itself, as a refusal does.
-pub fn listing_shown(picture: &str) -> Result<String, String> {
+pub fn listing_shown(picture: &str, name: &[u8], job: &[u8]) -> Result<String, String> {
     if !picture.starts_with("<svg") {
         return Ok(picture.to_string());
     }
     let (width, height) = sheet(picture).ok_or("no sheet in the title")?;
-    check_frame(picture, width, height)?;
+    let sheet = Sheet::new(width, height);
+    check_size(picture, &sheet)?;
+    check_bounds(picture, &sheet)?;
+    check_words(picture, &sheet, name, job)?;
     let grounds: Vec<&str> = lines_starting(picture, "<rect x=");
     let groups: Vec<&str> = lines_starting(picture, "<g>");
     if grounds.len() != groups.len() {
@@ -27,12 +93,19 @@ pub fn listing_shown(picture: &str) -> Result<String, String> {
         ));
     }
     let mut text = format!("sheet {width} {height}\n");
+    let mut painted = Vec::new();
     for (vertex, (ground, group)) in grounds.iter().zip(&groups).enumerate() {
-        let [x1, y1, x2, y2] =
-            rectangle(ground, height).ok_or(format!("the ground of {vertex}"))?;
-        check_group(group, vertex, height, [x1, y1, x2, y2])?;
+        let lines = rectangle(ground, &sheet).ok_or(format!("the ground of {vertex}"))?;
+        check_group(group, vertex, &sheet, lines)?;
+        let tint = between(ground, " fill=\"", "\"").ok_or(format!("the tint of {vertex}"))?;
+        if between(group, " fill=\"", "\"") != Some(tint) {
+            return Err(format!("the plate of {vertex}"));
+        }
+        painted.push((lines, tint));
+        let [x1, y1, x2, y2] = lines;
         text.push_str(&format!("{vertex} {x1} {y1} {x2} {y2}\n"));
     }
+    check_tints(&painted)?;
     Ok(text)
 }
 
@@ -56,39 +129,270 @@ fn sheet(picture: &str) -> Option<(usize, usize)> {
     Some((width.parse().ok()?, height.parse().ok()?))
 }
 
-/// The picture is as large as the sheet and what stands along its sides.
-fn check_frame(picture: &str, width: usize, height: usize) -> Result<(), String> {
-    let expected = format!(
-        "0 0 {} {}",
-        LEFT + CELL * width + 16,
-        TOP + CELL * height + 44
-    );
-    match between(picture, "viewBox=\"", "\"") {
-        Some(found) if found == expected => Ok(()),
-        found => Err(format!("the picture is {found:?} large")),
+/// Units of 0.3 mm, in millimetres.
+fn millimetres(units: usize) -> String {
+    let tenths = units * 3;
+    if tenths % 10 == 0 {
+        return (tenths / 10).to_string();
     }
+    format!("{}.{}", tenths / 10, tenths % 10)
+}
+
+/// The picture is as large as the sheet and what stands round it, in millimetres, and bounded by any page.
+fn check_size(picture: &str, sheet: &Sheet) -> Result<(), String> {
+    let (wide, high) = sheet.size();
+    let expected = format!(
+        " width=\"{}mm\" height=\"{}mm\" viewBox=\"0 0 {wide} {high}\" ",
+        millimetres(wide),
+        millimetres(high)
+    );
+    if !picture.lines().next().unwrap_or("").contains(&expected) {
+        return Err(format!("the picture is not{expected}large"));
+    }
+    if !picture.contains("svg{max-width:100%;max-height:100%}") {
+        return Err("the picture is not bounded by its page".to_string());
+    }
+    Ok(())
 }
 
 fn attribute(element: &str, name: &str) -> Option<usize> {
     between(element, &format!(" {name}=\""), "\"")?.parse().ok()
 }
 
+/// The elements of a name, each from behind its name on.
+fn elements<'a>(picture: &'a str, name: &'a str) -> impl Iterator<Item = &'a str> {
+    picture.split(name).skip(1)
+}
+
+/// Nothing lies outside the picture: rectangles, paths and texts, whose columns are taken to be two thirds as wide as the letters are high.
+fn check_bounds(picture: &str, sheet: &Sheet) -> Result<(), String> {
+    let (wide, high) = sheet.size();
+    for rect in elements(picture, "<rect").filter_map(|rest| rest.split('>').next()) {
+        let at = |name: &str| attribute(rect, name).unwrap_or(0);
+        if at("x") + at("width") > wide || at("y") + at("height") > high {
+            return Err(format!("a rectangle outside: {rect:.60}"));
+        }
+    }
+    for path in elements(picture, " d=\"") {
+        let moves = path.split('"').next().unwrap_or("");
+        for from_to in moves.split('M').skip(1) {
+            let (x, y) = end_of(from_to).ok_or(format!("a path: {from_to}"))?;
+            if x > wide || y > high {
+                return Err(format!("a line outside: {from_to}"));
+            }
+        }
+    }
+    for words in all_words(picture)? {
+        let half = (columns(&words.says) * words.size).div_ceil(3);
+        let level = words.size.div_ceil(2);
+        if words.x < half || words.x + half > wide || words.y < level || words.y + level > high {
+            return Err(format!("a text outside: {words:?}"));
+        }
+    }
+    Ok(())
+}
+
+/// How much room a text takes: most characters a column, those of the far east two.
+fn columns(says: &str) -> usize {
+    let plain = says
+        .replace("&lt;", "<")
+        .replace("&gt;", ">")
+        .replace("&amp;", "&");
+    plain.chars().map(column).sum()
+}
+
+fn column(c: char) -> usize {
+    if c.len_utf8() < 3 {
+        1
+    } else {
+        2
+    }
+}
+
+/// The end of one stroke of a path, as `48 16v100`.
+fn end_of(stroke: &str) -> Option<(usize, usize)> {
+    let (x, rest) = stroke.split_once(' ')?;
+    let x: usize = x.parse().ok()?;
+    if let Some((y, down)) = rest.split_once('v') {
+        return Some((x, y.parse::<usize>().ok()? + down.parse::<usize>().ok()?));
+    }
+    let (y, across) = rest.split_once('h')?;
+    Some((x + across.parse::<usize>().ok()?, y.parse().ok()?))
+}
+
+/// All texts of a picture.
+fn all_words(picture: &str) -> Result<Vec<Words>, String> {
+    elements(picture, "<text").map(words_of).collect()
+}
+
+fn words_of(element: &str) -> Result<Words, String> {
+    let read = || {
+        Some(Words {
+            x: attribute(element, "x")?,
+            y: attribute(element, "y")?,
+            size: attribute(element, "font-size")?,
+            says: between(element, ">", "</text>")?.to_string(),
+        })
+    };
+    read().ok_or(format!("a text: {element:.60}"))
+}
+
+/// The texts beside the rectangles are these and no others: which job it is, how it is read, and each line's number at both its ends.
+fn check_words(picture: &str, sheet: &Sheet, name: &[u8], job: &[u8]) -> Result<(), String> {
+    let mut found = Vec::new();
+    for line in picture.lines().filter(|line| !line.starts_with("<g>")) {
+        found.extend(all_words(line)?);
+    }
+    let mut expected = told(sheet, name, job);
+    expected.extend(line_numbers(sheet));
+    found.sort();
+    expected.sort();
+    match expected.iter().zip(&found).find(|(e, f)| e != f) {
+        Some((e, f)) => Err(format!("{f:?} in place of {e:?}")),
+        None if expected.len() != found.len() => Err(format!("{} texts", found.len())),
+        None => Ok(()),
+    }
+}
+
+/// The words above and below the sheet.
+fn told(sheet: &Sheet, name: &[u8], job: &[u8]) -> Vec<Words> {
+    let bottom = sheet.down(0);
+    let lines = [
+        (16, 12, name_shown(name)),
+        (
+            34,
+            12,
+            format!(
+                "sheet {} by {} cells, fingerprint {}",
+                sheet.width,
+                sheet.height,
+                cksum(job)
+            ),
+        ),
+        (
+            bottom + 34,
+            11,
+            "The grey strip, one cell wide, is the frame: sides N, W, S and E.".into(),
+        ),
+        (
+            bottom + 49,
+            11,
+            format!(
+                "Rooms begin at line 1 and end at line {} across and line {} up.",
+                sheet.width - 1,
+                sheet.height - 1
+            ),
+        ),
+        (
+            bottom + 64,
+            11,
+            format!(
+                "x runs west to east, y south to north. At full size a cell is {} mm.",
+                millimetres(sheet.cell)
+            ),
+        ),
+    ];
+    let x = sheet.size().0 / 2;
+    lines
+        .into_iter()
+        .map(|(y, size, says)| Words { x, y, size, says })
+        .collect()
+}
+
+/// Every line's number, at both its ends.
+fn line_numbers(sheet: &Sheet) -> Vec<Words> {
+    let number = |x, y, n: usize| Words {
+        x,
+        y,
+        size: 12,
+        says: n.to_string(),
+    };
+    let mut all = Vec::new();
+    for x in 0..=sheet.width {
+        all.push(number(sheet.across(x), TOP - 12, x));
+        all.push(number(sheet.across(x), sheet.down(0) + 12, x));
+    }
+    for y in 0..=sheet.height {
+        all.push(number(sheet.left - 16, sheet.down(y), y));
+        all.push(number(sheet.across(sheet.width) + 16, sheet.down(y), y));
+    }
+    all
+}
+
+/// A name as a picture shows it: whole characters that XML allows, else a question mark a byte, and no more than 40 columns.
+fn name_shown(name: &[u8]) -> String {
+    if name.is_empty() {
+        return "(a job without a file name)".to_string();
+    }
+    let (mut at, mut columns, mut text) = (0, 0, String::new());
+    while at < name.len() {
+        if columns >= 40 {
+            text.push_str("...");
+            break;
+        }
+        let whole = (1..=4)
+            .filter_map(|n| std::str::from_utf8(name.get(at..at + n)?).ok())
+            .find(|s| s.chars().count() == 1);
+        match whole.and_then(|s| s.chars().next()) {
+            Some(c) if c >= ' ' && c != '\u{7f}' && c != '\u{fffe}' && c != '\u{ffff}' => {
+                match c {
+                    '&' => text.push_str("&amp;"),
+                    '<' => text.push_str("&lt;"),
+                    '>' => text.push_str("&gt;"),
+                    c => text.push(c),
+                }
+                columns += column(c);
+                at += c.len_utf8();
+            }
+            _ => {
+                text.push('?');
+                columns += 1;
+                at += 1;
+            }
+        }
+    }
+    text
+}
+
+/// What POSIX's `cksum` prints first: the bytes and their count, low byte first, divided by a polynomial.
+fn cksum(bytes: &[u8]) -> u32 {
+    let mut count = bytes.len();
+    let mut all = bytes.to_vec();
+    while count > 0 {
+        all.push((count % 256) as u8);
+        count /= 256;
+    }
+    let mut rest: u32 = 0;
+    for byte in all {
+        rest ^= u32::from(byte) << 24;
+        for _ in 0..8 {
+            let carry = rest >> 31 == 1;
+            rest <<= 1;
+            if carry {
+                rest ^= 0x04c1_1db7;
+            }
+        }
+    }
+    !rest
+}
+
 /// A number of cells, if it is one.
-fn cells(units: usize) -> Option<usize> {
-    (units % CELL == 0).then_some(units / CELL)
+fn cells(units: usize, sheet: &Sheet) -> Option<usize> {
+    (units % sheet.cell == 0).then_some(units / sheet.cell)
 }
 
 /// The lines that a `rect` spans: x1, y1, x2, y2.
-fn rectangle(element: &str, height: usize) -> Option<[usize; 4]> {
-    let x1 = cells(attribute(element, "x")?.checked_sub(LEFT)?)?;
-    let y2 = height.checked_sub(cells(attribute(element, "y")?.checked_sub(TOP)?)?)?;
-    let x2 = x1 + cells(attribute(element, "width")?)?;
-    let y1 = y2.checked_sub(cells(attribute(element, "height")?)?)?;
+fn rectangle(element: &str, sheet: &Sheet) -> Option<[usize; 4]> {
+    let x1 = cells(attribute(element, "x")?.checked_sub(sheet.left)?, sheet)?;
+    let top = cells(attribute(element, "y")?.checked_sub(TOP)?, sheet)?;
+    let y2 = sheet.height.checked_sub(top)?;
+    let x2 = x1 + cells(attribute(element, "width")?, sheet)?;
+    let y1 = y2.checked_sub(cells(attribute(element, "height")?, sheet)?)?;
     Some([x1, y1, x2, y2])
 }
 
 /// Title, outline and label of a vertex.
-fn check_group(group: &str, vertex: usize, height: usize, lines: [usize; 4]) -> Result<(), String> {
+fn check_group(group: &str, vertex: usize, sheet: &Sheet, lines: [usize; 4]) -> Result<(), String> {
     let [x1, y1, x2, y2] = lines;
     let (full, short) = match SIDES.get(vertex) {
         Some((full, short)) => (full.to_string(), short.to_string()),
@@ -98,26 +402,47 @@ fn check_group(group: &str, vertex: usize, height: usize, lines: [usize; 4]) -> 
     if between(group, "<title>", "</title>") != Some(title.as_str()) {
         return Err(format!("the title of {vertex}"));
     }
-    let outline = group
-        .split("<rect")
-        .nth(2)
-        .and_then(|rest| rectangle(rest, height));
+    let outline = elements(group, "<rect")
+        .nth(1)
+        .and_then(|rest| rectangle(rest, sheet));
     if outline != Some(lines) {
         return Err(format!("the outline of {vertex}"));
     }
-    let label = group
-        .split("<text")
-        .nth(1)
+    let label = elements(group, "<text")
+        .next()
         .ok_or(format!("no label of {vertex}"))?;
+    let label = words_of(label)?;
     let middle = (
-        LEFT + CELL * (x1 + x2) / 2,
-        TOP + CELL * (2 * height - y1 - y2) / 2,
+        (sheet.across(x1) + sheet.across(x2)) / 2,
+        (sheet.down(y1) + sheet.down(y2)) / 2,
     );
-    if attribute(label, "x") != Some(middle.0) || attribute(label, "y") != Some(middle.1) {
+    if (label.x, label.y) != middle {
         return Err(format!("the place of the label of {vertex}"));
     }
-    if between(label, ">", "<") != Some(short.as_str()) {
+    if label.says != short {
         return Err(format!("the label of {vertex}"));
     }
     Ok(())
+}
+
+/// The frame is grey and no room is; rooms that share a wall differ in their tints.
+fn check_tints(painted: &[([usize; 4], &str)]) -> Result<(), String> {
+    for (v, (lines, tint)) in painted.iter().enumerate() {
+        if (v < 4) != (*tint == FRAME) {
+            return Err(format!("the tint of {v}"));
+        }
+        for (u, (other, same)) in painted.iter().enumerate().take(v).skip(4) {
+            if tint == same && share(lines, other) {
+                return Err(format!("{u} and {v} are neighbours of one tint"));
+            }
+        }
+    }
+    Ok(())
+}
+
+/// Whether two rectangles have a wall in common.
+fn share(a: &[usize; 4], b: &[usize; 4]) -> bool {
+    let along = |i: usize| a[i + 2].min(b[i + 2]) > a[i].max(b[i]);
+    let ends = |i: usize| a[i + 2] == b[i] || b[i + 2] == a[i];
+    (ends(0) && along(1)) || (ends(1) && along(0))
 }

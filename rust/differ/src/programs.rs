@@ -1,5 +1,6 @@
 //! The planner under test: the built programs, or, to try the comparison itself, a planner with a known slip.
 
+use crate::picture::with_name;
 use crate::planner::{calls_text, listing_text};
 use crate::slips::{Slip, SlippedBoard};
 use std::io::{Read, Write};
@@ -31,9 +32,10 @@ impl UnderTest {
     }
 
     /// A planner with a slip draws nothing; its listing stands for the picture.
-    pub fn picture(&self, job: &[u8]) -> String {
+    pub fn picture(&self, name: &[u8], job: &[u8]) -> String {
         match self {
-            UnderTest::Runner(path) => run(path, "draw", job),
+            UnderTest::Runner(path) if name.is_empty() => run(path, "draw", job),
+            UnderTest::Runner(path) => run(path, "draw", &with_name(name, job)),
             UnderTest::Slipped(_) => self.listing(job),
         }
     }

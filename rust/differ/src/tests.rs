@@ -72,17 +72,32 @@ fn one_seed_gives_one_stream() {
 }
 
 const PICTURE: &str = include_str!("../../../docs/pictures/F.svg");
+const JOB: &[u8] = include_bytes!("../../../examples/F.job");
+
+/// What a picture of F shows.
+fn shown(picture: &str) -> Result<String, String> {
+    listing_shown(picture, b"F.job", JOB)
+}
 
 #[test]
 fn a_picture_shows_its_listing() {
     let expected = "sheet 4 5\n0 1 4 3 5\n1 0 0 1 5\n2 1 0 3 1\n3 3 0 4 5\n\
         4 1 3 2 4\n5 2 2 3 4\n6 1 1 2 3\n7 2 1 3 2\n";
-    assert_eq!(listing_shown(PICTURE).as_deref(), Ok(expected));
+    assert_eq!(shown(PICTURE).as_deref(), Ok(expected));
 }
 
-/// The parts of a picture's line that say where a rectangle stands and what it is called.
+/// The parts of a picture's line that say where a rectangle or a text stands and what it is called.
 fn telling_parts(line: &str) -> Vec<Range<usize>> {
     let until = |from: usize, word: &str| from..from + line[from..].find(word).unwrap();
+    if line.starts_with("<text") || line.starts_with("<path stroke") {
+        let texts = line.match_indices("<text").map(|(at, _)| at);
+        return texts
+            .flat_map(|at| {
+                let says = at + line[at..].find('>').unwrap();
+                [until(at, " dy"), until(says, "</text>")]
+            })
+            .collect();
+    }
     if line.starts_with("<rect x=") {
         return vec![until(0, " fill")];
     }
@@ -118,7 +133,7 @@ fn telling_digits() -> Vec<usize> {
 fn a_changed_digit_of_a_picture_is_noticed() {
     let places = telling_digits();
     assert!(places.len() > 100, "only {} digits", places.len());
-    let told = listing_shown(PICTURE);
+    let told = shown(PICTURE);
     for place in places {
         let mut other = PICTURE.as_bytes().to_vec();
         other[place] = if other[place] == b'9' {
@@ -127,6 +142,44 @@ fn a_changed_digit_of_a_picture_is_noticed() {
             other[place] + 1
         };
         let other = String::from_utf8(other).unwrap();
-        assert_ne!(listing_shown(&other), told, "digit at {place}");
+        assert_ne!(shown(&other), told, "digit at {place}");
     }
+}
+
+#[test]
+fn neighbours_of_one_tint_are_noticed() {
+    let tint = |x: &str| {
+        let rest = &PICTURE[PICTURE.find(x).unwrap()..];
+        let from = rest.find("fill=\"").unwrap() + 6;
+        rest[from..from + 7].to_string()
+    };
+    let (four, five) = (
+        tint("<rect x=\"200\" y=\"148\""),
+        tint("<rect x=\"280\" y=\"148\""),
+    );
+    assert_ne!(four, five);
+    assert!(shown(&PICTURE.replace(&four, &five)).is_err());
+}
+
+#[test]
+fn what_lies_outside_a_picture_is_noticed() {
+    let wide =
+        |n: usize| format!("<rect x=\"500\" y=\"500\" width=\"{n}\" height=\"10\"/>\n</svg>");
+    let with = |n: usize| {
+        PICTURE
+            .replace("</svg>", &wide(n))
+            .replace("<rect x=\"500", "<path/><rect x=\"500")
+    };
+    assert!(shown(&with(60)).is_ok());
+    assert!(shown(&with(61)).is_err());
+    let line = |x: usize| PICTURE.replace("</svg>", &format!("<path d=\"M{x} 10h60\"/>\n</svg>"));
+    assert!(shown(&line(500)).is_ok());
+    assert!(shown(&line(501)).is_err());
+}
+
+#[test]
+fn another_job_or_name_is_noticed() {
+    assert!(listing_shown(PICTURE, b"G.job", JOB).is_err());
+    assert!(listing_shown(PICTURE, b"", JOB).is_err());
+    assert!(listing_shown(PICTURE, b"F.job", &JOB[1..]).is_err());
 }

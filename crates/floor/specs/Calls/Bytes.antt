@@ -17,16 +17,19 @@ use Rattle.floor.specs.Floor.{Inside, GoodPlan}
 use Rattle.floor.specs.Floor.Read.{entry-ok}
 use Rattle.floor.specs.Calls.Sound.{Sound, sound-good}
 
+-- a star of a job has no more entries than the job has pairs
 star-pairs : (j : Job) (s : Star) → List·Memᴰ s j → length s ≤ pairsIn j
 unfolding pairsIn sum
 star-pairs (r ∷ j) s (List·Memᴰ·head e) = let q : length s ≡ length r = ap (λ (s : Star). length s) e in omega arith
 star-pairs (r ∷ j) s (List·Memᴰ·tail i) = omega (arith, star-pairs j s i)
 
+-- each rectangle is written as eight bytes
 length-rects : (rs : List Rect) → length (writeRects rs) ≡ 8 * length rs
 unfolding writeRects rectBytes
 length-rects [] = refl
 length-rects (r ∷ rs) = omega (arith, length-append (writeField 4 (rectBytes r)) (writeRects rs), length-field 4 (rectBytes r), length-rects rs)
 
+-- a plan is written as five bytes for the sheet and eight for each rectangle
 pub length-writePlan : (p : Plan) → length (writePlan p) ≡ 5 + 8 * length (p .rects)
 unfolding writePlan
 length-writePlan p =
@@ -37,6 +40,7 @@ length-writePlan p =
       length-rects (p .rects),
     )
 
+-- rectangles are written as bytes, where the five numbers of each are bytes
 rects-bytes : (rs : List Rect) → ((r : Rect) → List·Memᴰ r rs → Bytes (rectBytes r)) → Bytes (writeRects rs)
 unfolding writeRects rectBytes
 rects-bytes [] h = tt
@@ -55,6 +59,7 @@ module _ (j : Job) (p : Plan) (s : Sound j p) where
     leb-true (p .height) 64 (and-parts (leb (p .width) 64) _ (s .is-drawn .small) .1),
   )
 
+  -- the held plan is good for its job
   gp : GoodPlan j p
   gp = sound-good j p s
 
@@ -68,6 +73,7 @@ module _ (j : Job) (p : Plan) (s : Sound j p) where
           small : (i : ℕ) → i < length j → (e : Entry) → List·Memᴰ e (getD j i []) → (e .to < 256) × (e .kind < 256)
           small i l e x = (omega (arith, entry-ok j (s .passes) i l e x .below, limits .0), omega (arith, entry-ok j (s .passes) i l e x .small))
 
+  -- the five numbers of each vertex's rectangle are bytes
   rect-bytes : (v : ℕ) → Vertex j v → Bytes (rectBytes (rectOf p v))
   unfolding rectBytes
   rect-bytes v h =
@@ -94,8 +100,10 @@ module _ (j : Job) (p : Plan) (s : Sound j p) where
   pub plan-length : length (writePlan p) ≡ 37 + 8 * length j
   plan-length = omega (arith, length-writePlan p, gp .floor .complete .count)
 
+  -- a written job has at most 904 bytes
   pub job-length-most : length (writeJob j) ≤ 904
   job-length-most = omega (arith, length-writeJob j, limits .0, limits .1)
 
+  -- a written plan has at most 517 bytes
   pub plan-length-most : length (writePlan p) ≤ 517
   plan-length-most = omega (arith, plan-length, limits .0)

@@ -14,31 +14,29 @@ use Rattle.floor.specs.Jobs.{Job, writeJob}
 use Rattle.floor.specs.Jobs.Written.{read-write-job, write-read-job}
 use Rattle.floor.specs.Plans.{Plan, Answer, refused, held, drawn, writePlan}
 use Rattle.floor.specs.Plans.Held.{drawn-held, drawn-again}
-use Rattle.floor.specs.Turns.{turn}
-use Rattle.floor.specs.Turns.Restore.{turnedBy, asked, turned-restores}
-use Rattle.floor.specs.Calls.{load, Board, empty, holding, Call, loads, turns, rectangle, shares, writesJob, writesPlan, Reply, refusal, done, wrote}
+use Rattle.floor.specs.Turns.{turn, turnedBy}
+use Rattle.floor.specs.Turns.Restore.{asked, turned-restores}
+use Rattle.floor.specs.Calls.{load, Board, empty, holding, Call, loads, turns, rectangle, shares, writesJob, writesPlan, Reply, refusal, done, wrote, Left, Restored}
 use Rattle.floor.specs.Calls.{Step, lent, refuse, after, asks, writes, step}
 use Rattle.floor.specs.Calls.Sound.{Sound, sound-good, load-held, load-reads}
-
--- the board and the buffer as they were
-pub record Left (b : Board) (buf : List ℕ) (s : Step) : Type 0 where
-  pub same-board : s .board ≡ b
-  pub same-buffer : s .buffer ≡ buf
 
 -- what is done is not refused
 no-refusal : {X : Type 0} {k : ℕ} → done ≡ refusal k → X
 no-refusal e = let z : _≡_ {A = ℕ} 0 1 = cc in absurd (omega arith)
 
+-- a load or turn that is refused leaves the board
 after-refused : (b : Board) (r : Answer) (k : ℕ) → after b r .reply ≡ refusal k → Left b [] (after b r)
 unfolding after refuse
 after-refused b (refused n) k e = record { same-board = refl; same-buffer = refl }
 after-refused b (held j p) k e = no-refusal e
 
+-- a question leaves the board, whatever it answers
 asks-left : (b : Board) (t : Bool) (r : Reply) → Left b [] (asks b t r)
 unfolding asks refuse
 asks-left b true r = record { same-board = refl; same-buffer = refl }
 asks-left b false r = record { same-board = refl; same-buffer = refl }
 
+-- a writing that is refused leaves the board and every byte of the buffer
 writes-refused : (b : Board) (t : Bool) (bs buf : List ℕ) (k : ℕ) → writes b t bs buf .reply ≡ refusal k → Left b buf (writes b t bs buf)
 unfolding writes refuse
 writes-refused b true bs buf k e = let z : _≡_ {A = ℕ} 0 1 = cc in absurd (omega arith)
@@ -70,6 +68,7 @@ pub record Written (b : Board) (bs buf : List ℕ) (n : ℕ) (s : Step) : Type 0
   pub behind : drop n (s .buffer) ≡ drop n buf
   pub same-length : length (s .buffer) ≡ length buf
 
+-- a writing that reports a length, where its bytes fit the buffer, fills the front, touches nothing behind it and leaves the board
 writes-wrote : (b : Board) (t : Bool) (bs buf : List ℕ) (n : ℕ) → (t ≡ true → length bs ≤ length buf) → writes b t bs buf .reply ≡ wrote n
     → Written b bs buf n (writes b t bs buf)
 unfolding writes refuse
@@ -84,11 +83,13 @@ writes-wrote b true bs buf n h e =
     }
 writes-wrote b false bs buf n h e = let z : _≡_ {A = ℕ} 0 1 = cc in absurd (omega arith)
 
+-- so does the writing of the held job
 pub wrote-job : (j : Job) (p : Plan) (buf : List ℕ) (n : ℕ) → step (holding j p) (writesJob buf) .reply ≡ wrote n
     → Written (holding j p) (writeJob j) buf n (step (holding j p) (writesJob buf))
 unfolding step
 wrote-job j p buf n e = writes-wrote (holding j p) _ (writeJob j) buf n (leb-true (length (writeJob j)) (length buf)) e
 
+-- so does the writing of the held plan
 pub wrote-plan : (j : Job) (p : Plan) (buf : List ℕ) (n : ℕ) → step (holding j p) (writesPlan buf) .reply ≡ wrote n
     → Written (holding j p) (writePlan p) buf n (step (holding j p) (writesPlan buf))
 unfolding step
@@ -108,15 +109,12 @@ write-load b j p s = after-held b (load (writeJob j)) j p (load-reads (writeJob 
 pub load-write : (bs : List ℕ) (j : Job) (p : Plan) → Bytes bs → load bs ≡ held j p → writeJob j ≡ bs
 load-write bs j p ok e = write-read-job bs j ok (load-held bs j p e .0 .reading)
 
--- TURNED AND TURNED AGAIN, in either order of the two numbers: accepted, and the same board
-pub record Restored (b : Board) (s : Step) : Type 0 where
-  pub accepted : s .reply ≡ done
-  pub same-board : s .board ≡ b
-
+-- a turn that is held restores
 after-restored : (b : Board) (r : Answer) (j : Job) (p : Plan) → r ≡ held j p → Restored (holding j p) (after b r)
 unfolding after
 after-restored b r j p e = rw e (record { accepted = refl; same-board = refl })
 
+-- TURNED AND TURNED AGAIN, in either order of the two numbers: accepted, and the same board
 pub turn-turn : (j : Job) (p : Plan) (u v : ℕ) → Sound j p → step (holding j p) (turns u v) .reply ≡ done
     → Restored (holding j p) (step (step (holding j p) (turns u v) .board) (turns u v)) × Restored (holding j p)
     (step (step (holding j p) (turns u v) .board) (turns v u))

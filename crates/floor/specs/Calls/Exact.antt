@@ -11,31 +11,21 @@ use lib.ListN.{length, getD}
 use borrow.Author.Tests.{le-leb}
 use Rattle.floor.specs.Lists.Laws.{and-both, Apart, apart-at}
 use Rattle.floor.specs.Fields.{Field, broken, field, readField}
-use Rattle.floor.specs.Jobs.{passing, firstSix, Star, Room, starOf, kindOf, Job, opposite, readStars, test2, test3, test4, test5, test6, Reading, fails}
+use Rattle.floor.specs.Jobs.{passing, firstSix, Star, Room, starOf, kindOf, Job, opposite, readStars, test2, test3, test4, test5, test6, Reading, fails, SixPassed}
 use Rattle.floor.specs.Jobs.{reads, readRest, readRooms, readFirst, readJob}
 use Rattle.floor.specs.Jobs.Stars.{entry, GoodStar, kindOf-mid, mem-names}
-use Rattle.floor.specs.Jobs.Facts.{SixPassed, room-is, Passes, passes-of, passing-true}
+use Rattle.floor.specs.Jobs.Facts.{room-is, Passes, labelling-passes, passes-of, passing-true}
 use Rattle.floor.specs.Walls.{Numbers, Axis, upright, level, rules, at, jobNumbers}
 use Rattle.floor.specs.Walls.Walk.{unique, numbers-respects}
 use Rattle.floor.specs.Walls.Rules.{numbered, numbers-are, to-vertex}
-use Rattle.floor.specs.Plans.{Plan, planOf, drawable, Answer, refused, held, past, test8, tested, planned, drawn, drawRead}
+use Rattle.floor.specs.Plans.{Plan, planOf, drawable, Answer, refused, held, past, test8, tested, planned, drawn, drawRead, Numbered}
 use Rattle.floor.specs.Plans.Held.{Drawn, drawn-held, drawn-again}
 use Rattle.floor.specs.Turns.Swing.{named-front}
 use Rattle.floor.specs.Turns.Ends.{opposite-opposite}
-use Rattle.floor.specs.Turns.Restore.{Turnable, turnedBy, asked, turned-keeps}
-use Rattle.floor.specs.Turns.{inContact, turn, turning, turningAt, turningFrom, turned}
-use Rattle.floor.specs.Calls.{load}
+use Rattle.floor.specs.Turns.Restore.{asked, turned-keeps}
+use Rattle.floor.specs.Turns.{inContact, turn, turning, turningAt, turningFrom, turned, Turnable, turnedBy}
+use Rattle.floor.specs.Calls.{load, Accepted, Answers, Turned}
 use Rattle.floor.specs.Calls.Sound.{Sound, sound-good, load-held, load-six}
-
--- A LABELLING NUMBERED AND TESTED, by the text alone: numbers for both directions, the plan by them, tests 8 and 9
-pub record Numbered (j : Job) (p : Plan) : Type 0 where
-  pub xs : ℕ → ℕ
-  pub ys : ℕ → ℕ
-  pub are-upright : Numbers (rules upright j) xs
-  pub are-level : Numbers (rules level j) ys
-  pub is-plan : p ≡ planOf j xs ys
-  pub small : test8 p ≡ true
-  pub draws : drawable j p ≡ true
 
 -- the text's numbers are the computed ones
 computed : (a : Axis) (j : Job) → Passes j → (f : ℕ → ℕ) → Numbers (rules a j) f → (l : List ℕ) × (jobNumbers a j ≡ some l) × (f ≡ at l)
@@ -44,6 +34,7 @@ computed a j ok f n =
     (l, e, fun-ext (λ s. unique (rules a j) f (at l) n (numbers-are a j (to-vertex j ok) l e) s))
 
 module _ (j : Job) (ok : Passes j) (p : Plan) where
+  -- a plan that the computed numbers give, past tests 8 and 9, is one that the text's numbers give
   pub drawn-numbered : Drawn j p → Numbered j p
   drawn-numbered d = record {
     xs = at (d .xs);
@@ -55,6 +46,7 @@ module _ (j : Job) (ok : Passes j) (p : Plan) where
     draws = d .draws;
   }
 
+  -- a plan that the text's numbers give, past tests 8 and 9, is one that the computed numbers give
   pub numbered-drawn : Numbered j p → Drawn j p
   numbered-drawn n =
       let (f, ef, qf) = computed upright j ok (n .xs) (n .are-upright) in
@@ -69,11 +61,6 @@ module _ (j : Job) (ok : Passes j) (p : Plan) where
         draws = n .draws;
       }
 
--- A JOB THAT THE RULES ACCEPT: read past tests 1 and 2, past tests 3 to 6, numbered and tested
-pub record Accepted (bs : List ℕ) (j : Job) (p : Plan) : Type 0 where
-  pub six : SixPassed (readJob bs) j
-  pub is-numbered : Numbered j p
-
 -- LOADED EXACTLY WHEN THE RULES SAY SO
 pub accepted : (bs : List ℕ) (j : Job) (p : Plan) → (load bs ≡ held j p) ↔ Accepted bs j p
 accepted bs j p = (forth, back)
@@ -86,20 +73,18 @@ accepted bs j p = (forth, back)
         let s : SixPassed (readJob bs) j = a .six in
         load-six bs j p s (numbered-drawn j (passes-of j (s .pass4) (s .pass5) (s .pass6)) p (a .is-numbered))
 
--- a plan, or one refusal whose number is among those of the call
-abbrev pub Answers : ℕ → ℕ → Answer → Type 0
-Answers least most (refused k) = (least ≤ k) × (k ≤ most)
-Answers least most (held j p) = Unit {0}
-
+-- among more numbers
 wider : (a b c d : ℕ) (r : Answer) → a ≤ c → d ≤ b → Answers c d r → Answers a b r
 wider a b c d (refused k) h i n = (omega (arith, n .0), omega (arith, n .1))
 wider a b c d (held j p) h i n = tt
 
+-- a test whose number is among those of the call, put before an answer that keeps to them, keeps to them
 past-answers : (a b : ℕ) (t : Bool) (k : ℕ) (next : Unit {0} → Answer) → a ≤ k → k ≤ b → Answers a b (next tt) → Answers a b (past t k next)
 unfolding past
 past-answers a b true k next h i n = n
 past-answers a b false k next h i n = (h, i)
 
+-- a job numbered and tested gives a plan, or one of the refusals 7 to 9
 drawn-answers : (j : Job) → Answers 7 9 (drawn j)
 unfolding drawn
 drawn-answers j = go (jobNumbers upright j) (jobNumbers level j)
@@ -116,6 +101,7 @@ abbrev Fails : ℕ → Reading → Type 0
 Fails most (fails k) = (1 ≤ k) × (k ≤ most)
 Fails most (reads j) = Unit {0}
 
+-- a job's bytes, read from the first field on, give a job, or fail by 1 or 2
 read-answers : (f : Field) → Fails 2 (readFirst f)
 unfolding readFirst
 read-answers broken = (omega arith, omega arith)
@@ -133,11 +119,13 @@ read-answers (field t v rest) = go (eqb t 1 && eqb (length v) 1) (test2 (getD v 
     go true b n = rooms-answers b n
     go false b n = (omega arith, omega arith)
 
+-- a test whose number is from 1 to 6, before a reading that fails by such a number at most, fails by such a number at most
 passing-fails : (b : Bool) (k : ℕ) (r : Reading) → 1 ≤ k → k ≤ 6 → Fails 6 r → Fails 6 (passing b k r)
 unfolding passing
 passing-fails true k r l h f = f
 passing-fails false k r l h f = (l, h)
 
+-- what fails by 1 or 2 at most fails by 1 to 6 at most when tests 3 to 6 follow
 six-answers : (r : Reading) → Fails 2 r → Fails 6 (firstSix r)
 unfolding firstSix
 six-answers (fails k) h = (h .0, omega (arith, h .1))
@@ -155,6 +143,7 @@ load-answers bs = go (firstSix (readJob bs)) (six-answers (readJob bs) (read-ans
     go (fails k) h = unfold drawRead in (h .0, omega (arith, h .1))
     go (reads j) h = unfold drawRead in wider 1 9 7 9 (drawn j) (omega arith) (omega arith) (drawn-answers j)
 
+-- a test whose number is from 7 to 12, before what is refused by such a number at most, is refused by such a number at most
 passing-answers : (b : Bool) (k : ℕ) (r : Reading) → 7 ≤ k → k ≤ 12 → Answers 7 12 (drawRead r) → Answers 7 12 (drawRead (passing b k r))
 unfolding passing drawRead
 passing-answers true k r l h a = a
@@ -175,12 +164,6 @@ turn-answers j u v = unfold turning in passing-answers _ 11 _ (omega arith) (ome
     go true u v k = unfold turningFrom in at-answers u v k
     go false u v k = unfold turningFrom in at-answers v u (opposite k)
 
--- A TURN THAT THE RULES ACCEPT: a contact that can be turned, and its turned labelling numbered and tested afresh
-pub record Turned (j : Job) (u v : ℕ) (i : Job) (q : Plan) : Type 0 where
-  pub contact : Turnable j u v
-  pub is-job : i ≡ turnedBy contact
-  pub is-numbered : Numbered i q
-
 -- in a star that names each once, an entry's kind is found
 kind-found : (s : Star) (v k : ℕ) → GoodStar s → List·Memᴰ (entry v k) s → kindOf s v ≡ k
 kind-found s v k g m = let c : Apart (entry v k) s = apart-at (entry v k) s m in go (c .front) (c .rest) (c .whole)
@@ -195,6 +178,7 @@ asks-up m (inl e) = rw e (refl, refl)
 asks-up m (inr e) = rw e (refl, refl)
 
 module _ (j : Job) (p : Plan) (s : Sound j p) where
+  -- the held job has the facts that tests 4 to 6 tell
   ok : Passes j
   ok = s .passes
 
@@ -218,7 +202,7 @@ module _ (j : Job) (p : Plan) (s : Sound j p) where
   turned-exactly u v i q = (forth, back)
     where
       keeps : (t : Turnable j u v) → Passes (turnedBy t)
-      keeps t = turned-keeps j ok p (sound-good j p s) t .passes
+      keeps t = labelling-passes (turnedBy t) (turned-keeps j ok p (sound-good j p s) t .labelling)
 
       back : Turned j u v i q → turn j u v ≡ held i q
       back r = go (r .contact) (r .is-job)

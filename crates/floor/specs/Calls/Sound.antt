@@ -7,15 +7,14 @@ use lib.ListN.{length}
 use native.Mathlib.Omega.{arith}
 use borrow.Author.Tests.{leb-true}
 use Rattle.floor.specs.Lists.Laws.{and-parts}
-use Rattle.floor.specs.Jobs.{firstSix, Job, test2, test3, Reading, fails, reads, readJob, writeJob}
-use Rattle.floor.specs.Jobs.Facts.{Passes, passes-of, of-passes, SixPassed, six-passed, passed-six}
+use Rattle.floor.specs.Jobs.{firstSix, Job, test2, test3, Reading, fails, reads, readJob, writeJob, SixPassed}
+use Rattle.floor.specs.Jobs.Facts.{labelling-passes, Passes, passes-of, of-passes, six-passed, passed-six}
 use Rattle.floor.specs.Jobs.Written.{read-test2}
 use Rattle.floor.specs.Plans.{Plan, Answer, refused, held, drawRead, writePlan}
 use Rattle.floor.specs.Plans.Held.{not-held, Drawn, drawn-held, drawn-again, held-good}
 use Rattle.floor.specs.Floor.{GoodPlan}
-use Rattle.floor.specs.Turns.{turn}
-use Rattle.floor.specs.Turns.Turned.{Kept}
-use Rattle.floor.specs.Turns.Restore.{turnedBy, asked, turned-keeps}
+use Rattle.floor.specs.Turns.{turn, Kept, turnedBy}
+use Rattle.floor.specs.Turns.Restore.{asked, turned-keeps}
 use Rattle.floor.specs.Calls.{load, Board, empty, holding, Call, loads, turns, rectangle, shares, writesJob, writesPlan, Reply, refuse, after}
 use Rattle.floor.specs.Calls.{asks, writes, step, run}
 
@@ -32,10 +31,12 @@ SoundBoard empty = Unit {0}
 SoundBoard (holding j p) = Sound j p
 
 module _ (j : Job) (p : Plan) (s : Sound j p) where
+  -- a held job has at least one room
   pub some-room : 0 < length j
   unfolding test2
   some-room = omega (arith, leb-true 1 (length j) (and-parts _ _ (s .pass2) .0))
 
+  -- the held plan is good for its job
   pub sound-good : GoodPlan j p
   sound-good = held-good j (s .passes) some-room p (s .is-drawn)
 
@@ -45,6 +46,7 @@ unfolding drawRead
 draw-held (fails k) j p h = not-held h
 draw-held (reads i) j p h = let (q, d) = drawn-held i j p h in (ap reads (sym q), rw q d)
 
+-- what a load holds was read past tests 3 to 6, and is sound
 pub load-held : (bs : List ℕ) (j : Job) (p : Plan) → load bs ≡ held j p → SixPassed (readJob bs) j × Sound j p
 unfolding load
 load-held bs j p h =
@@ -57,6 +59,7 @@ pub load-six : (bs : List ℕ) (j : Job) (p : Plan) → SixPassed (readJob bs) j
 unfolding load drawRead
 load-six bs j p s d = ap drawRead (passed-six (readJob bs) j s) ∙ drawn-again j p d
 
+-- bytes that are read as the job of a sound board are loaded, with the same plan
 pub load-reads : (bs : List ℕ) (j : Job) (p : Plan) → readJob bs ≡ reads j → Sound j p → load bs ≡ held j p
 load-reads bs j p r s =
     let (t4, t5, t6) = of-passes j (s .passes) in
@@ -69,7 +72,7 @@ turn-held j p u v i q s h =
     let (t, d) = asked j u v i q (s .passes) h in
     let w : Kept j (turnedBy t) = turned-keeps j (s .passes) p (sound-good j p s) t in
     let (e, r) = drawn-held (turnedBy t) i q d in
-    rw e (record { pass2 = rw (w .rooms) (s .pass2); pass3 = rw (w .pairs) (s .pass3); passes = w .passes; is-drawn = r })
+    rw e (record { pass2 = rw (w .rooms) (s .pass2); pass3 = rw (w .pairs) (s .pass3); passes = labelling-passes _ (w .labelling); is-drawn = r })
 
 -- ONE CALL leaves a sound board sound
 after-sound : (b : Board) (r : Answer) → SoundBoard b → ((j : Job) (p : Plan) → r ≡ held j p → Sound j p) → SoundBoard (after b r .board)
@@ -77,16 +80,19 @@ unfolding after refuse
 after-sound b (refused k) s h = s
 after-sound b (held j p) s h = h j p refl
 
+-- a question leaves the board
 asks-board : (b : Board) (t : Bool) (r : Reply) → asks b t r .board ≡ b
 unfolding asks refuse
 asks-board b true r = refl
 asks-board b false r = refl
 
+-- a writing leaves the board
 writes-board : (b : Board) (t : Bool) (bs buf : List ℕ) → writes b t bs buf .board ≡ b
 unfolding writes refuse
 writes-board b true bs buf = refl
 writes-board b false bs buf = refl
 
+-- any one call leaves a sound board sound
 pub step-sound : (b : Board) (c : Call) → SoundBoard b → SoundBoard (step b c .board)
 unfolding step refuse
 step-sound b (loads bs) s = load-sound b s
@@ -110,5 +116,6 @@ unfolding run
 run-sound b [] s = s
 run-sound b (c ∷ cs) s = run-sound (step b c .board) cs (step-sound b c s)
 
+-- what is held after any calls from an empty board is sound
 pub any-calls-sound : (cs : List Call) (j : Job) (p : Plan) → run empty cs ≡ holding j p → Sound j p
 any-calls-sound cs j p e = subst SoundBoard e (run-sound empty cs tt)

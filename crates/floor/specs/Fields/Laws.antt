@@ -10,10 +10,12 @@ use native.Mathlib.Omega.{arith}
 use borrow.Author.Tests.{leb-true, le-leb}
 use Rattle.floor.specs.Fields.{Bytes, broken, field, readField, writeField}
 
+-- bytes before bytes are bytes
 pub bytes-append : (a b : List ℕ) → Bytes a → Bytes b → Bytes (a ++ b)
 bytes-append [] b p q = q
 bytes-append (x ∷ a) b p q = (p .0, bytes-append a b (p .1) q)
 
+-- the back part of bytes is bytes
 pub bytes-behind : (a b : List ℕ) → Bytes (a ++ b) → Bytes b
 bytes-behind [] b p = p
 bytes-behind (x ∷ a) b p = bytes-behind a b (p .1)
@@ -29,6 +31,7 @@ pub record Whole (bs : List ℕ) (t : ℕ) (v rest : List ℕ) : Type 0 where
 pub not-broken : {X : Type 0} (t : ℕ) (v rest : List ℕ) → broken ≡ field t v rest → X
 not-broken t v rest e = let z : _≡_ {A = ℕ} 0 1 = cc in absurd (omega arith)
 
+-- a field that is read stands at the front of the bytes: its tag, the two bytes of its length, its value, then the rest
 pub whole-field : (bs : List ℕ) (t : ℕ) (v rest : List ℕ) → readField bs ≡ field t v rest → Whole bs t v rest
 unfolding readField
 whole-field [] t v rest e = not-broken t v rest e
@@ -80,6 +83,7 @@ pub length-field : (t : ℕ) (v : List ℕ) → length (writeField t v) ≡ 3 + 
 unfolding writeField
 length-field t v = omega arith
 
+-- a field is written as bytes, where its tag is a byte, its length fits two bytes and its value is bytes
 pub bytes-field : (t : ℕ) (v : List ℕ) → t < 256 → length v < 65536 → Bytes v → Bytes (writeField t v)
 unfolding writeField
 bytes-field t v l h b = (l, (omega arith, (omega arith, b)))

@@ -12,6 +12,7 @@ use Rattle.floor.specs.Floor.Parts.{good-local}
 use Rattle.floor.specs.Floor.Whole.{local-good}
 
 module _ (s : Stars) (g : Lawful s) where
+  -- each neighbour of a room is a vertex of the job
   known : (k : Side) (i : ℕ) (v : Piece) → i < s .count → List·Memᴰ v (s .list k i) → Known s v
   known k i v h m = named-known s k v (g .known k i v h m)
 

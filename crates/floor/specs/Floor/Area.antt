@@ -18,31 +18,37 @@ unfoldable pub total : ℕ → (ℕ → ℕ) → ℕ
 total zero f = 0
 total (suc n) f = total n f + f n
 
+-- two functions that agree below n have the same sum
 pub total-same : (n : ℕ) (f g : ℕ → ℕ) → ((i : ℕ) → i < n → f i ≡ g i) → total n f ≡ total n g
 unfolding total
 total-same zero f g h = refl
 total-same (suc n) f g h = omega (arith, total-same n f g (λ i l. h i (omega arith)), h n (omega arith))
 
+-- the sum of two functions added is their two sums added
 total-add : (n : ℕ) (f g : ℕ → ℕ) → total n (λ i. f i + g i) ≡ total n f + total n g
 unfolding total
 total-add zero f g = refl
 total-add (suc n) f g = omega (arith, total-add n f g)
 
+-- n times one number c add up to n * c
 total-const : (n c : ℕ) → total n (λ i. c) ≡ n * c
 unfolding total
 total-const zero c = sym (zero-mul c)
 total-const (suc n) c = omega (arith, total-const n c, suc-mul n c)
 
+-- a sum of sums is the same in either order
 total-swap : (n m : ℕ) (f : ℕ → ℕ → ℕ) → total n (λ i. total m (λ k. f i k)) ≡ total m (λ k. total n (λ i. f i k))
 unfolding total
 total-swap zero m f = sym (total-const m 0 ∙ mul-zero m)
 total-swap (suc n) m f = omega (arith, total-swap n m f, total-add m (λ k. total n (λ i. f i k)) (λ k. f n k))
 
+-- a factor common to all is a factor of the sum
 total-times : (n c : ℕ) (f : ℕ → ℕ) → total n (λ i. f i * c) ≡ total n f * c
 unfolding total
 total-times zero c f = sym (zero-mul c)
 total-times (suc n) c f = omega (arith, total-times n c f, add-mul (total n f) (f n) c)
 
+-- noughts add up to 0
 total-none : (n : ℕ) (f : ℕ → ℕ) → ((i : ℕ) → i < n → f i ≡ 0) → total n f ≡ 0
 unfolding total
 total-none zero f h = refl
@@ -58,11 +64,13 @@ total-one (suc n) v f h e o = go (ℕ-discrete v n) (λ l. total-one n v f l e (
     go (yes w) below = omega (arith, ap f w, total-none n f (λ i l. o i (omega arith) (λ z. omega arith)))
     go (no w) below = omega (arith, below (omega arith), o n (omega arith) (λ z. w (sym z)))
 
+-- a sum is its first number and the sum of the rest
 pub total-front : (n : ℕ) (f : ℕ → ℕ) → total (suc n) f ≡ f 0 + total n (λ i. f (suc i))
 unfolding total
 total-front zero f = omega arith
 total-front (suc n) f = omega (arith, total-front n f)
 
+-- the sum along a list is the sum over its places
 pub sum-total : {A : Type 0} (a : A → ℕ) (l : List A) (d : A) → sum (map a l) ≡ total (length l) (λ i. a (getD l i d))
 unfolding sum total
 sum-total a [] d = refl
@@ -72,14 +80,17 @@ sum-total a (x ∷ l) d = omega (arith, sum-total a l d, total-front (length l) 
 unfoldable within : ℕ → ℕ → ℕ → ℕ
 within a b x = cond (leb a x && ltb x b) 1 0
 
+-- a place in the stretch counts 1
 within-one : (a b x : ℕ) → a ≤ x → x < b → within a b x ≡ 1
 unfolding within
 within-one a b x h k = rw (le-leb a x h, lt-ltb x b k)
 
+-- a place before the stretch counts 0
 within-low : (a b x : ℕ) → x < a → within a b x ≡ 0
 unfolding within
 within-low a b x h = rw (lt-leb a x h)
 
+-- a place behind the stretch counts 0
 within-high : (a b x : ℕ) → b ≤ x → within a b x ≡ 0
 unfolding within
 within-high a b x h = go (leb a x)
@@ -88,6 +99,7 @@ within-high a b x h = go (leb a x)
     go true = rw (le-ltb x b h)
     go false = refl
 
+-- of the first n places as many lie in a stretch as it has below n
 stretch : (n a b : ℕ) → a ≤ b → total n (within a b) ≡ min n b - min n a
 unfolding total
 stretch zero a b h = omega arith
@@ -114,6 +126,7 @@ unfolding total
 total-le zero c f h = omega arith
 total-le (suc n) c f h = omega (arith, total-le n c f (λ i l. h i (omega arith)), h n (omega arith), suc-mul n c)
 
+-- numbers of at most c each that add up to n * c are c each
 total-full : (n c : ℕ) (f : ℕ → ℕ) → ((i : ℕ) → i < n → f i ≤ c) → total n f ≡ n * c → (i : ℕ) → i < n → f i ≡ c
 unfolding total
 total-full zero c f h e i l = absurd (omega arith)
@@ -125,6 +138,7 @@ total-full (suc n) c f h e i l =
     go (yes w) below = omega (arith, ap f w, total-le n c f (λ i l. h i (omega arith)), h n (omega arith), suc-mul n c)
     go (no w) below = below (omega arith)
 
+-- a sum that is not 0 has a number that is not 0
 pub total-some : (n : ℕ) (f : ℕ → ℕ) → 0 < total n f → (i : ℕ) × (i < n) × (0 < f i)
 unfolding total
 total-some zero f h = absurd (omega arith)
@@ -134,6 +148,7 @@ total-some (suc n) f h = go (decLt 0 (f n)) (total-some n f)
     go (yes w) below = (n, omega arith, w)
     go (no w) below = let (i, l, k) = below (omega arith) in (i, omega arith, k)
 
+-- numbers of at most 1, of which no two are not 0, add up to at most 1
 total-few : (n : ℕ) (f : ℕ → ℕ) → ((i : ℕ) → i < n → f i ≤ 1) → ((i k : ℕ) → i < n → k < n → 0 < f i → 0 < f k → i ≡ k) → total n f ≤ 1
 unfolding total
 total-few zero f h o = omega arith
@@ -150,6 +165,7 @@ total-few (suc n) f h o = go (decLt 0 (f n)) (total-few n f (λ i l. h i (omega 
             zero-of (yes z) = absurd (omega (arith, o i n (omega arith) (omega arith) z w))
             zero-of (no z) = omega arith
 
+-- no number is more than the sum
 total-at : (n i : ℕ) (f : ℕ → ℕ) → i < n → f i ≤ total n f
 unfolding total
 total-at zero i f h = absurd (omega arith)
@@ -159,6 +175,7 @@ total-at (suc n) i f h = go (ℕ-discrete i n) (total-at n i f)
     go (yes w) below = omega (arith, ap f w)
     go (no w) below = omega (arith, below (omega arith))
 
+-- no two numbers together are more than the sum
 total-two : (n i k : ℕ) (f : ℕ → ℕ) → i < k → k < n → f i + f k ≤ total n f
 unfolding total
 total-two zero i k f h l = absurd (omega arith)
@@ -179,13 +196,16 @@ total-unique n i k f e hi hk a b = go (decLt i k) (decLt k i)
 
 -- 1 where the cell lies in r, else 0
 module _ (r : Rect) (x y : ℕ) where
+  -- how often the cell is counted for r
   holds : ℕ
   holds = within (r .y1) (r .y2) y * within (r .x1) (r .x2) x
 
+  -- a cell that lies in r counts 1
   holds-one : Cell r x y → holds ≡ 1
   unfolding holds
   holds-one c = rw (within-one (r .y1) (r .y2) y (c .lower) (c .upper), within-one (r .x1) (r .x2) x (c .left) (c .right))
 
+  -- a cell that does not lie in r counts 0
   holds-none : (Cell r x y → ⊥) → holds ≡ 0
   unfolding holds
   holds-none d = go (decLt x (r .x1)) (decLt x (r .x2)) (decLt y (r .y1)) (decLt y (r .y2))
@@ -197,6 +217,7 @@ module _ (r : Rect) (x y : ℕ) where
       go (no a) (yes b) (no c) (no e) = rw (within-high (r .y1) (r .y2) y (omega arith)) (zero-mul _)
       go (no a) (yes b) (no c) (yes e) = absurd (d (record { left = omega arith; right = b; lower = omega arith; upper = e }))
 
+  -- either the cell lies in r or it does not
   cell : Dec (Cell r x y)
   cell = go (decLe (r .x1) x) (decLt x (r .x2)) (decLe (r .y1) y) (decLt y (r .y2))
     where
@@ -207,6 +228,7 @@ module _ (r : Rect) (x y : ℕ) where
       go (yes a) (yes b) (no c) e = no (λ k. c (k .lower))
       go (yes a) (yes b) (yes c) (no e) = no (λ k. e (k .upper))
 
+  -- a cell counts at most 1
   holds-few : holds ≤ 1
   holds-few = go cell
     where
@@ -214,6 +236,7 @@ module _ (r : Rect) (x y : ℕ) where
       go (yes c) = omega (arith, holds-one c)
       go (no c) = omega (arith, holds-none c)
 
+  -- a cell that counts lies in r
   holds-cell : 0 < holds → Cell r x y
   holds-cell h = go cell
     where
@@ -223,6 +246,7 @@ module _ (r : Rect) (x y : ℕ) where
 
 -- the areas of n rectangles are the cells of the sheet, each counted for every one that it lies in
 module _ (n : ℕ) (p : Plan) (many : length (p .rects) ≡ n) (inside : (v : ℕ) → v < n → Inside p (rectOf p v)) where
+  -- the areas added up are the cells of the sheet, each counted for every rectangle that it lies in
   counted : total n (λ v. area (rectOf p v)) ≡ total (p .width) (λ x. total (p .height) (λ y. total n (λ v. holds (rectOf p v) x y)))
   unfolding holds area
   counted =
@@ -236,6 +260,7 @@ module _ (n : ℕ) (p : Plan) (many : length (p .rects) ≡ n) (inside : (v : �
       (λ x. total (p .height) (λ y. total n (λ v. holds (rectOf p v) x y)))
       (λ x hx. total-swap n (p .height) (λ v y. holds (rectOf p v) x y))
 
+  -- the areas along the list of rectangles add up to those of the first n vertices' rectangles
   summed : sum (map area (p .rects)) ≡ total n (λ v. area (rectOf p v))
   unfolding rectOf
   summed = sum-total area (p .rects) nowhere ∙ ap (λ k. total k (λ v. area (rectOf p v))) many

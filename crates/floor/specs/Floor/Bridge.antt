@@ -29,27 +29,34 @@ module _ (j : Job) (ok : Passes j) (p : Plan) where
 
   -- THE CUSTOMER'S GOOD PLAN IS GOOD
   module _ (gp : GoodPlan j p) where
+    -- the plan is a floor plan for the job
     f : Floor j p
     f = gp .floor
 
+    -- no side of a piece reaches over the edge of the sheet
     inside : (k : Side) (v : Piece) → Known (starsOf j) v → placeOf p .at k v ≤ size (placeOf p) k
     inside = inside-place j p (gp .inside)
 
+    -- each piece is at least a cell thick, in every direction
     thick : (k : Side) (v : Piece) → Known (starsOf j) v → size (placeOf p) k < placeOf p .at k v + placeOf p .at (opp k) v
     thick = thick-place j p (gp .inside)
 
+    -- the frame has its shape: W and E full height, N and S between
     shape : Shape (placeOf p)
     shape = framed-shape p (gp .framed) (gp .inside 1 (omega arith)) (gp .inside 3 (omega arith))
 
+    -- each cell of the sheet lies in the rectangle of some vertex
     pub covered : (x y : ℕ) → x < p .width → y < p .height → (v : ℕ) × Vertex j v × Cell (rectOf p v) x y
     covered x y hx hy = let o : ExactlyOne j p x y = f .cover x y hx hy in (o .one, o .vertex, o .holds)
 
+    -- no cell lies in the rectangles of two vertices
     pub once : (x y u v : ℕ) → Vertex j u → Vertex j v → Cell (rectOf p u) x y → Cell (rectOf p v) x y → u ≡ v
     once x y u v hu hv c d =
         let o : ExactlyOne j p x y = f .cover x y (omega (arith, c .right, gp .inside u hu .in-width))
         (omega (arith, c .upper, gp .inside u hu .in-height)) in
         o .only u hu c ∙ sym (o .only v hv d)
 
+    -- no point lies in four pieces, in any direction
     no-four : (k : Side) → NoFour (starsOf j) (placeOf p) k
     no-four =
         each-side (λ k. NoFour (starsOf j) (placeOf p) k)
@@ -82,6 +89,7 @@ module _ (j : Job) (ok : Passes j) (p : Plan) where
         apart : (c : Side) × Contact (starsOf j) c (side down) (side up) → ⊥
         apart (c, m) = elim m [ ]
 
+    -- each neighbour of a room meets it on the side of its list
     room-meets : (k : Side) (i : ℕ) (v : Piece) → i < length j → Known (starsOf j) v → List·Memᴰ v (starsOf j .list k i) → Meets (placeOf p) k (room i) v
     unfolding starsOf
     room-meets k i v h hv m =
@@ -92,12 +100,14 @@ module _ (j : Job) (ok : Passes j) (p : Plan) where
             → Stands (num k) (rectOf p (4 + i)) (rectOf p (number v))
         go e ke te s = rw (ke, te) at s
 
+    -- pieces in contact by the job meet on that side
     meets : (k : Side) (u v : Piece) → Known (starsOf j) u → Known (starsOf j) v → Contact (starsOf j) k u v → Meets (placeOf p) k u v
     unfolding starsOf
     meets k (room i) v hu hv m = room-meets k i v hu hv m
     meets k (side t) (room r) hu hv m = rw (round k) at (flip (opp k) (room-meets (opp k) r (side t) hv hu m))
     meets k (side t) (side r) hu hv m = frame-meets (starsOf j) (placeOf p) shape inside thick gap k t r m
 
+    -- the placement of a good plan is good for the job's stars
     pub plan-good : Good (starsOf j) (placeOf p)
     unfolding starsOf
     plan-good = record {
@@ -116,6 +126,7 @@ module _ (j : Job) (ok : Passes j) (p : Plan) where
 
   -- GOOD IS THE CUSTOMER'S GOOD PLAN
   module _ (c : Complete j p) (g : Good (starsOf j) (placeOf p)) where
+    -- each vertex's rectangle has at least a cell and lies inside the sheet
     ins : (v : ℕ) → Vertex j v → Inside p (rectOf p v)
     unfolding placeOf reach
     ins v h =
@@ -128,6 +139,7 @@ module _ (j : Job) (ok : Passes j) (p : Plan) where
         } in
         rw (number-piece v) at i
 
+    -- the frame lies as in ours
     framed : Framed p
     unfolding placeOf reach
     framed =
@@ -147,6 +159,7 @@ module _ (j : Job) (ok : Passes j) (p : Plan) where
           s-y1 = omega (arith, s .s-down, ins 2 (omega arith) .tall, ins 2 (omega arith) .in-height);
         }
 
+    -- each cell of the sheet lies in the rectangle of exactly one vertex
     one-cell : (x y : ℕ) → x < p .width → y < p .height → ExactlyOne j p x y
     unfolding tile-at
     one-cell x y hx hy =
@@ -159,6 +172,7 @@ module _ (j : Job) (ok : Passes j) (p : Plan) where
               (cell-at j p ins x y w hw hx hy m) n);
         }
 
+    -- no point lies in the rectangles of four different vertices
     none-four : (x y t u v w : ℕ) → Vertex j t → Vertex j u → Vertex j v → Vertex j w → Different t u v w
         → Point (rectOf p t) x y → Point (rectOf p u) x y → Point (rectOf p v) x y → Point (rectOf p w) x y → ⊥
     none-four x y t u v w ht hu hv hw d nt nu nv nw =
@@ -180,6 +194,7 @@ module _ (j : Job) (ok : Passes j) (p : Plan) where
         (g .joined k (piece u) (piece v) (known-piece j u hu) (known-piece j v hv)
         (stands-meets j p ins k (piece u) (piece v) (known-piece j u hu) (known-piece j v hv) (rw (e, number-piece u, number-piece v) (s .stands)))))
 
+    -- who is joined shares at least one cell's length of wall
     joined-shares : (u v : ℕ) → Vertex j u → Vertex j v → Joined j u v → Shares (rectOf p u) (rectOf p v)
     joined-shares u v hu hv n = let (k, m) = joined-contact j ok (piece u) (piece v) (known-piece j u hu) (known-piece j v hv)
         (rw (number-piece u, number-piece v) n) in go k m
@@ -216,6 +231,7 @@ module _ (j : Job) (ok : Passes j) (p : Plan) where
         let e : 4 + (u - 4) ≡ u = omega (arith, r .0) in
         rw (star-room j u (r .0)) (rw e at (h (u - 4) (omega (arith, r .0, r .1))))
 
+    -- the plan is good for the job, in the customer's words
     pub good-plan : GoodPlan j p
     unfolding starsOf
     good-plan = record {

@@ -9,6 +9,7 @@ use Rattle.floor.specs.Floor.Sides.{Side, up, left, down, right, next, o
 use Rattle.floor.specs.Floor.Sides.{Lawful, Tile, In, Local, Shape}
 use Rattle.floor.specs.Floor.Tiles.{beside, one-entry}
 
+-- the sheet is as large in the direction of the opposite side
 pub size-opp : (p : Place) (k : Side) → size p (opp k) ≡ size p k
 size-opp p up = refl
 size-opp p left = refl
@@ -19,9 +20,11 @@ size-opp p right = refl
 abbrev pub turn : {p : Place} {k : Side} → Tile p k → Tile p (next k)
 turn {p} {k} x = record { a = x .b; b = x .c; c = x .d; d = x .a; ac = x .bd; bd = omega (arith, x .ac, size-opp p k) }
 
+-- a vertex that covers a cell covers it as seen in the next direction
 pub turn-in : {p : Place} {k : Side} (x : Tile p k) {v : Piece} → In p k x v → In p (next k) (turn x) v
 turn-in {p} {k} x {v} i = record { ina = i .inb; inb = i .inc; inc = i .ind; ind = rw (round k) (i .ina) }
 
+-- a vertex that covers a cell as seen in the next direction covers it
 pub turn-out : {p : Place} {k : Side} (x : Tile p k) {v : Piece} → In p (next k) (turn x) v → In p k x v
 turn-out {p} {k} x {v} i = record { ina = rw (round k) at (i .ind); inb = i .ina; inc = i .inb; ind = i .inc }
 
@@ -37,6 +40,7 @@ module _ (s : Stars) (p : Place) (g : Lawful s) (l : Local s p) where
   Over : (k : Side) → Tile p k → ℕ → Type 0
   Over k y i = ((j : ℕ) × (j < s .count) × List·Memᴰ (room j) (s .list k i) × In p k y (room j)) ⊎ (List·Memᴰ (side k) (s .list k i) × In p k y (side k))
 
+  -- the cell next to a room on side k lies in a neighbour of that kind: a room, or the frame side
   over : (k : Side) (i : ℕ) → i < s .count → (y : Tile p k) → y .a ≡ p .at k (room i) → y .b < p .at (next k) (room i) → y .d < p .at (prev k) (room i)
       → Over k y i
   unfolding Over
@@ -130,6 +134,7 @@ module _ (s : Stars) (p : Place) (g : Lawful s) (l : Local s p) where
       go (inl q) = q
       go (inr q) = l .base-one i j (hi, west i hi ni, at-frame down x i hi ni q) (hj, west j hj nj, at-frame down x j hj nj q)
 
+  -- no cell lies in two rooms
   rows : (c : ℕ) (x : Tile p left) → x .c ≡ c → (i j : ℕ) → i < s .count → j < s .count → In p left x (room i) → In p left x (room j) → i ≡ j
   rows zero x e i j hi hj ni nj = absurd (omega (arith, x .ac, ni .ina, l .within left i hi, frame left, l .shape .w-left))
   rows (suc c) x e i j hi hj ni nj =
@@ -151,12 +156,14 @@ module _ (s : Stars) (p : Place) (g : Lawful s) (l : Local s p) where
       let (i, h) = l .base in
       omega (arith, l .within up i (h .0), l .within down i (h .0), l .thick up (room i) (h .0))
 
+  -- no cell lies in a frame side and in a room
   frame-room : (t : Side) (x : Tile p left) (i : ℕ) → i < s .count → In p left x (side t) → In p left x (room i) → ⊥
   frame-room left x i h m n = apart left x i h m n
   frame-room down x i h m n = apart down (turn x) i h (turn-in x m) (turn-in x n)
   frame-room right x i h m n = omega (arith, m .ina, n .inc, x .ac, l .within right i h)
   frame-room up x i h m n = omega (arith, m .inb, n .ind, x .bd, l .within up i h)
 
+  -- no cell lies in two frame sides
   frames : (t r : Side) (x : Tile p left) → In p left x (side t) → In p left x (side r) → t ≡ r
   frames up up x m n = refl
   frames left left x m n = refl
@@ -175,6 +182,7 @@ module _ (s : Stars) (p : Place) (g : Lawful s) (l : Local s p) where
   frames left right x m n = absurd (omega (arith, m .inc, n .ina, x .ac, l .shape .n-left, l .shape .n-right, l .thick left (side up) tt))
   frames right left x m n = absurd (omega (arith, n .inc, m .ina, x .ac, l .shape .n-left, l .shape .n-right, l .thick left (side up) tt))
 
+  -- no cell, seen towards the left, lies in two vertices
   alone-left : (x : Tile p left) (u v : Piece) → Known s u → Known s v → In p left x u → In p left x v → u ≡ v
   alone-left x (side t) (side r) hu hv m n = ap side (frames t r x m n)
   alone-left x (side t) (room j) hu hv m n = absurd (frame-room t x j hv m n)
@@ -256,6 +264,7 @@ module _ (s : Stars) (p : Place) (g : Lawful s) (l : Local s p) where
       walk right (x .a - p .at right (side left)) start x (record { ma = omega arith; mb = refl; mc = omega arith; md = refl }) hc j hj
       (record { ina = n .ind; inb = n .ina; inc = n .inb; ind = n .inc })
 
+  -- every cell, seen towards the right, lies in some vertex
   cover-right : (x : Tile p right) → (v : Piece) × Known s v × In p right x v
   cover-right x = go (decLe (p .at right (side left)) (x .a)) (decLe (p .at left (side right)) (x .c)) (decLe (p .at up (side down)) (x .b))
       (decLe (p .at down (side up)) (x .d))

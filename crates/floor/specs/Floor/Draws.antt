@@ -48,6 +48,7 @@ inside-of p r h =
           leb-true (r .y2) (p .height) d;
     }
 
+-- a rectangle of at least a cell inside the sheet passes the test
 of-inside : (p : Plan) (r : Rect) → Inside p r → inside p r ≡ true
 unfolding inside
 of-inside p r i =
@@ -63,6 +64,7 @@ apart-of r s h x y c d = go (or-cases _ _ h)
     go (inl e) = omega (arith, eqb-true (overlap (r .x1) (r .x2) (s .x1) (s .x2)) 0 e, c .left, c .right, d .left, d .right)
     go (inr e) = omega (arith, eqb-true (overlap (r .y1) (r .y2) (s .y1) (s .y2)) 0 e, c .lower, c .upper, d .lower, d .upper)
 
+-- two rectangles with no cell in both pass the test
 of-apart : (r s : Rect) → ((x y : ℕ) → Cell r x y → Cell s x y → ⊥) → apart r s ≡ true
 unfolding apart overlap
 of-apart r s h = go (decLt 0 ox) (decLt 0 oy)
@@ -94,6 +96,7 @@ touch-of a b c d h = go (or-cases (eqb b c) (eqb d a) h)
     go (inl e) = inl (eqb-true b c e)
     go (inr e) = inr (eqb-true d a e)
 
+-- stretches that touch end to end pass the test
 of-touch : (a b c d : ℕ) → Touch a b c d → abut a b c d ≡ true
 unfolding abut
 of-touch a b c d (inl e) = or-left (eqb b c) (eqb d a) (eq-eqb b c e)
@@ -104,14 +107,17 @@ wall-of : (a from to b from′ to′ : ℕ) → a ≡ b → 1 ≤ overlap from t
 unfolding overlap
 wall-of a from to b from′ to′ e l = wall-at a from to b from′ to′ e (omega arith) (omega arith) (omega arith) (omega arith)
 
+-- stretches that share a unit reach over one another by at least 1
 of-wall : {a from to b from′ to′ : ℕ} → Wall a from to b from′ to′ → leb 1 (overlap from to from′ to′) ≡ true
 unfolding overlap
 of-wall {a} {from} {to} {b} {from′} {to′} w = le-leb 1 (overlap from to from′ to′) (omega (arith, w .starts, w .ends, w .starts′, w .ends′))
 
+-- so they do named in the other order
 back-wall : {a from to b from′ to′ : ℕ} → Wall a from to b from′ to′ → leb 1 (overlap from′ to′ from to) ≡ true
 unfolding overlap
 back-wall {a} {from} {to} {b} {from′} {to′} w = le-leb 1 (overlap from′ to′ from to) (omega (arith, w .starts, w .ends, w .starts′, w .ends′))
 
+-- two rectangles that pass the test share at least one cell's length of wall
 pub shares-of : (r s : Rect) → share r s ≡ true → Shares r s
 unfolding share
 shares-of r s h = go (or-cases _ _ h)
@@ -137,6 +143,7 @@ shares-of r s h = go (or-cases _ _ h)
     go (inl e) = let (a, b) = and-parts _ _ e in across (touch-of (r .x1) (r .x2) (s .x1) (s .x2) a) (leb-true 1 (overlap (r .y1) (r .y2) (s .y1) (s .y2)) b)
     go (inr e) = let (a, b) = and-parts _ _ e in along (touch-of (r .y1) (r .y2) (s .y1) (s .y2) a) (leb-true 1 (overlap (r .x1) (r .x2) (s .x1) (s .x2)) b)
 
+-- two rectangles that share at least one cell's length of wall pass the test
 pub of-shares : (r s : Rect) → Shares r s → share r s ≡ true
 unfolding share
 of-shares r s h = go (h .side) (h .few) (h .stands)
@@ -163,6 +170,7 @@ onward-of (suc zero) r s h = ltb-true (s .y1) (r .y1) h
 onward-of (suc (suc zero)) r s h = ltb-true (r .x1) (s .x1) h
 onward-of (suc (suc (suc k))) r s h = ltb-true (r .y1) (s .y1) h
 
+-- a rectangle that comes after another by its kind passes the test
 of-onward : (k : ℕ) (r s : Rect) → Onward k r s → follows k r s ≡ true
 unfolding follows
 of-onward zero r s h = lt-ltb (s .x1) (r .x1) h
@@ -170,6 +178,7 @@ of-onward (suc zero) r s h = lt-ltb (s .y1) (r .y1) h
 of-onward (suc (suc zero)) r s h = lt-ltb (r .x1) (s .x1) h
 of-onward (suc (suc (suc k))) r s h = lt-ltb (r .y1) (s .y1) h
 
+-- in a star that passes the test of order, a later entry of the same kind stands onward
 star-of : (p : Plan) (s : Star) → pairwise (inOrder p) s ≡ true → (d e : Entry) → Earlier d e s → d .kind ≡ e .kind
     → Onward (d .kind) (rectOf p (d .to)) (rectOf p (e .to))
 unfolding pairwise inOrder
@@ -178,6 +187,7 @@ star-of p (c ∷ s) h d e (here m) same =
     (implied (eqb (c .kind) (e .kind)) _ (all-mem (inOrder p c) s (and-parts _ _ h .0) e m) (eq-eqb (c .kind) (e .kind) same))
 star-of p (c ∷ s) h d e (there x) same = star-of p s (and-parts (all (inOrder p c) s) _ h .1) d e x same
 
+-- a star in which later entries of the same kind stand onward passes the test of order
 of-star : (p : Plan) (s : Star) → ((d e : Entry) → Earlier d e s → d .kind ≡ e .kind → Onward (d .kind) (rectOf p (d .to)) (rectOf p (e .to)))
     → pairwise (inOrder p) s ≡ true
 unfolding pairwise inOrder
@@ -195,14 +205,17 @@ module _ (j : Job) (p : Plan) (c : Complete j p) where
   unfolding rectOf
   pair-at t h u v l hv = pairwise-at t (p .rects) nowhere h u v l (omega (arith, c .count))
 
+  -- a test that every two vertices pass, in their order, all pairs of rectangles pass
   at-pair : (t : Rect → Rect → Bool) → ((u v : ℕ) → u < v → Vertex j v → t (rectOf p u) (rectOf p v) ≡ true) → pairwise t (p .rects) ≡ true
   unfolding rectOf
   at-pair t h = at-pairwise t (p .rects) nowhere (λ u v l hv. h u v l (omega (arith, c .count)))
 
+  -- a test that all rectangles pass, the rectangle of each vertex passes
   rect-at : (t : Rect → Bool) → all t (p .rects) ≡ true → (v : ℕ) → Vertex j v → t (rectOf p v) ≡ true
   unfolding rectOf
   rect-at t h v hv = all-mem t (p .rects) h (rectOf p v) (mem-getD (p .rects) v nowhere (omega (arith, c .count)))
 
+  -- a test that the rectangle of each vertex passes, all rectangles pass
   at-rect : (t : Rect → Bool) → ((v : ℕ) → Vertex j v → t (rectOf p v) ≡ true) → all t (p .rects) ≡ true
   unfolding rectOf
   at-rect t h = all-at t (p .rects) nowhere (λ v hv. h v (omega (arith, c .count)))

@@ -26,15 +26,18 @@ use Rattle.floor.specs.Floor.Ours.{plan-complete, plan-fits}
 unfoldable measure : Place → Side → ℕ → ℕ
 measure p k n = cond (eqb (n % 2) 0) (size p k - p .at (opp k) (piece (n / 2))) (p .at k (piece (n / 2)))
 
+-- the low side of a vertex is placed where the vertex begins in that direction
 measure-low : (p : Place) (k : Side) (v : ℕ) → measure p k (low v) ≡ size p k - p .at (opp k) (piece v)
 unfolding measure
 measure-low p k v = let e : (2 * v) / 2 ≡ v = omega arith in rw (eq-eqb ((2 * v) % 2) 0 (omega arith), e)
 
+-- the high side of a vertex is placed where the vertex ends in that direction
 measure-high : (p : Place) (k : Side) (v : ℕ) → measure p k (high v) ≡ p .at k (piece v)
 unfolding measure
 measure-high p k v = let e : (2 * v + 1) / 2 ≡ v = omega arith in rw (ne-eqb ((2 * v + 1) % 2) 0 (λ z. omega arith), e)
 
 module _ (j : Job) (ok : Passes j) (p : Place) (g : Good (starsOf j) p) where
+  -- an entry's neighbour is a vertex of the job, and meets the room on the side of its kind
   meet : (k : Side) (i : ℕ) → i < length j → (e : Entry) → List·Memᴰ e (getD j i []) → e .kind ≡ num k
       → Known (starsOf j) (piece (e .to)) × Meets p k (room i) (piece (e .to))
   unfolding starsOf
@@ -67,9 +70,11 @@ module _ (j : Job) (ok : Passes j) (p : Place) (g : Good (starsOf j) p) where
     };
   }
 
+  -- the x places of a good plan respect the rules of the upright walls
   good-upright : Respects (rules upright j) (measure p right)
   good-upright = obeys-respects upright (measure p right) j (along upright right up refl refl refl (λ u v t. (t .behind, omega (arith, t .ahead))))
 
+  -- the y places of a good plan respect the rules of the level walls
   good-level : Respects (rules level j) (measure p up)
   good-level = obeys-respects level (measure p up) j (along level up right refl refl refl (λ u v t. (t .ahead, omega (arith, t .behind))))
 

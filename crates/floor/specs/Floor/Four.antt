@@ -26,6 +26,7 @@ pub record On (p : Place) (k : Side) (x : Knot p k) (v : Piece) : Type 0 where
 pub turn-knot : {p : Place} {k : Side} → Knot p k → Knot p (next k)
 turn-knot {p} {k} x = record { a = x .b; b = x .c; c = x .d; d = x .a; ac = x .bd; bd = omega (arith, x .ac, size-opp p k) }
 
+-- a vertex that holds a point holds it as seen in the next direction
 pub turn-on : {p : Place} {k : Side} (x : Knot p k) {v : Piece} → On p k x v → On p (next k) (turn-knot x) v
 unfolding turn-knot
 turn-on {p} {k} x {v} n = record { ona = n .onb; onb = n .onc; onc = n .ond; ond = rw (round k) (n .ona) }
@@ -40,11 +41,13 @@ without : (a v : ℕ) → Dec (v < a) → ℕ
 without a v (yes h) = v
 without a v (no h) = v - 1
 
+-- a number other than a, both among the first n + 1, is among the first n when a is left out
 without-few : (a v n : ℕ) (q : Dec (v < a)) → a < suc n → v < suc n → (a ≡ v → ⊥) → without a v q < n
 unfolding without
 without-few a v n (yes h) ha hv d = omega arith
 without-few a v n (no h) ha hv d = omega arith
 
+-- different numbers other than a stay different when a is left out
 without-differ : (a u v : ℕ) (q : Dec (u < a)) (r : Dec (v < a)) → (a ≡ u → ⊥) → (a ≡ v → ⊥) → (u ≡ v → ⊥) → without a u q ≡ without a v r → ⊥
 unfolding without
 without-differ a u v (yes h) (yes k) x y d e = d e
@@ -56,6 +59,7 @@ without-differ a u v (no h) (no k) x y d e = omega arith
 pigeon4 : (b c d e : ℕ) → b < 3 → c < 3 → d < 3 → e < 3 → (b ≡ c → ⊥) → (b ≡ d → ⊥) → (b ≡ e → ⊥) → (c ≡ d → ⊥) → (c ≡ e → ⊥) → (d ≡ e → ⊥) → ⊥
 pigeon4 b c d e hb hc hd he bc bd be cd ce de = omega arith
 
+-- five numbers below 4 are not all different
 pub pigeon : (a b c d e : ℕ) → a < 4 → b < 4 → c < 4 → d < 4 → e < 4 → (a ≡ b → ⊥) → (a ≡ c → ⊥) → (a ≡ d → ⊥) → (a ≡ e → ⊥) → (b ≡ c → ⊥) → (b ≡ d → ⊥)
     → (b ≡ e → ⊥) → (c ≡ d → ⊥) → (c ≡ e → ⊥) → (d ≡ e → ⊥) → ⊥
 pigeon a b c d e ha hb hc hd he ab ac ad ae bc bd be cd ce de =
@@ -71,6 +75,7 @@ module _ (s : Stars) (p : Place)
     (inside : (k : Side) (v : Piece) → Known s v → p .at k v ≤ size p k)
     (thick : (k : Side) (v : Piece) → Known s v → size p k < p .at k v + p .at (opp k) v)
     (alone : (k : Side) (x : Tile p k) (u v : Piece) → Known s u → Known s v → In p k x u → In p k x v → u ≡ v) where
+  -- every side of a vertex reaches at least one cell from the opposite edge of the sheet
   pos : (k : Side) (v : Piece) → Known s v → 1 ≤ p .at k v
   pos k v h = omega (arith, thick k v h, inside (opp k) v h, size-opp p k)
 
@@ -140,6 +145,7 @@ module _ (s : Stars) (p : Place)
     few : part < 4
     covers : Quarter k x v part
 
+  -- a vertex that holds a point covers one of the point's quarters
   held : (k : Side) (x : Knot p k) (v : Piece) → Known s v → On p k x v → Held k x v
   held k x v h n = go (decLt (x .a) (p .at k v)) (decLt (x .b) (p .at (next k) v))
     where
@@ -203,6 +209,7 @@ module _ (s : Stars) (p : Place)
       (record { ina = e .0; inb = omega (arith, nu .onb, pos (next k) u hu); inc = omega (arith, nu .onc, pos (opp k) u hu); ind = e .1 })
       (record { ina = f .0; inb = omega (arith, nv .onb, pos (next k) v hv); inc = omega (arith, nv .onc, pos (opp k) v hv); ind = f .1 })
 
+  -- different vertices at a point do not cover the same quarter
   differ : (k : Side) (x : Knot p k) (u v : Piece) (hu : Held k x u) (hv : Held k x v) → (u ≡ v → ⊥) → hu .part ≡ hv .part → ⊥
   differ k x u v hu hv d e = d (one-quarter k x u v (hu .known) (hv .known) (hu .on) (hv .on) (hv .part) (rw e at (hu .covers)) (hv .covers))
 
@@ -210,6 +217,7 @@ module _ (s : Stars) (p : Place)
   Narrow : (k : Side) → Knot p k → Piece → Type 0
   Narrow k x v = (m n : ℕ) → m < 4 → n < 4 → Quarter k x v m → Quarter k x v n → m ≡ n
 
+  -- of four different vertices at a point, the first covers one quarter only
   narrow : (k : Side) (x : Knot p k) (t u v w : Piece) → Held k x t → Held k x u → Held k x v → Held k x w
       → (t ≡ u → ⊥) → (t ≡ v → ⊥) → (t ≡ w → ⊥) → (u ≡ v → ⊥) → (u ≡ w → ⊥) → (v ≡ w → ⊥) → Narrow k x t
   unfolding Narrow
@@ -233,6 +241,7 @@ module _ (s : Stars) (p : Place)
     there : Quarter k x who m
     alone-there : Narrow k x who
 
+  -- of four different vertices at a point, one covers quarter m, and no other quarter
   holder : (k : Side) (x : Knot p k) (m : ℕ) → m < 4 → (t u v w : Piece) → Held k x t → Held k x u → Held k x v → Held k x w
       → (t ≡ u → ⊥) → (t ≡ v → ⊥) → (t ≡ w → ⊥) → (u ≡ v → ⊥) → (u ≡ w → ⊥) → (v ≡ w → ⊥) → Holder k x m
   holder k x m hm t u v w ht hu hv hw tu tv tw uv uw vw = go (ℕ-discrete m (ht .part)) (ℕ-discrete m (hu .part)) (ℕ-discrete m (hv .part))

@@ -23,6 +23,7 @@ names-of : (j : Job) (u v : ℕ) → namesIn (starOf j u) v ≡ true → Names j
 unfolding namesIn
 names-of j u v h = let (e, m, q) = any-mem (λ (e : Entry). eqb (e .to) v) (starOf j u) h in record { entry = e; listed = m; is-to = eqb-true (e .to) v q }
 
+-- a star that names a vertex passes the test
 of-names : (j : Job) (u v : ℕ) → Names j u v → namesIn (starOf j u) v ≡ true
 unfolding namesIn
 of-names j u v n = mem-any (λ (e : Entry). eqb (e .to) v) (starOf j u) (n .entry) (n .listed) (eq-eqb (n .entry .to) v (n .is-to))
@@ -39,6 +40,7 @@ around-of u v h = let (a, b) = and-parts (ltb u 4) (eqb v ((u + 1) % 4)) h in go
     go (suc (suc (suc zero))) l e = rw e e-n
     go (suc (suc (suc (suc u)))) l e = absurd (omega arith)
 
+-- neighbouring sides of the frame pass the test
 of-around : {u v : ℕ} → Around u v → nextSide u v ≡ true
 unfolding nextSide
 of-around n-w = refl
@@ -63,6 +65,7 @@ joined-of j u v h = go (or-cases (namesIn (starOf j u) v || namesIn (starOf j v)
     go (inl e) = three (or-cases (namesIn (starOf j u) v || namesIn (starOf j v) u) (nextSide u v) e)
     go (inr e) = around′ (around-of v u e)
 
+-- who is joined passes the test
 pub of-joined : (j : Job) (u v : ℕ) → Joined j u v → joined j u v ≡ true
 unfolding joined
 of-joined j u v (names n) = or-left _ _ (or-left _ _ (or-left _ _ (of-names j u v n)))
@@ -70,6 +73,7 @@ of-joined j u v (named n) = or-left _ _ (or-left _ _ (or-right (namesIn (starOf 
 of-joined j u v (around a) = or-left _ _ (or-right (namesIn (starOf j u) v || namesIn (starOf j v) u) _ (of-around a))
 of-joined j u v (around′ a) = or-right (namesIn (starOf j u) v || namesIn (starOf j v) u || nextSide u v) _ (of-around a)
 
+-- who is joined is joined in the other order
 pub joined-back : {j : Job} {u v : ℕ} → Joined j u v → Joined j v u
 joined-back (names n) = named n
 joined-back (named n) = names n
@@ -83,6 +87,7 @@ around-sides w-s = (left, down, right, refl, refl, ws)
 around-sides s-e = (down, right, right, refl, refl, se)
 around-sides e-n = (right, up, left, refl, refl, en)
 
+-- neighbouring sides of the frame are joined, whatever the job
 beside-joined : (j : Job) {k t r : Side} → Beside k t r → Joined j (num t) (num r)
 beside-joined j wn = around′ n-w
 beside-joined j ws = around w-s
@@ -116,6 +121,7 @@ module _ (j : Job) (ok : Passes j) where
           let (c, q) = kind-side (e .kind) (omega (arith, entry-ok j ok i hu e m .small)) in
           (c, rw (ap piece te ∙ piece-number v) at (entry-mem (getD j i []) (num c) e m (sym {a = num c} q)))
 
+  -- pieces with the numbers of neighbouring frame sides are in contact where those are neighbours
   sides-contact : (k : Side) (u v : Piece) (t r : Side) → number u ≡ num t → number v ≡ num r → Beside k t r → Contact (starsOf j) k u v
   sides-contact k u v t r eu ev b = rw (number-same u (side t) eu, number-same v (side r) ev) b
 

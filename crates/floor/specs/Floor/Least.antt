@@ -22,10 +22,12 @@ unfoldable places : (ℕ → ℕ) → (ℕ → ℕ) → ℕ → ℕ
 places from to n = max 1 (cond (eqb (n % 2) 0) (from (n / 2)) (to (n / 2)))
 
 module _ (from to : ℕ → ℕ) where
+  -- the low side of a vertex has the place where it begins, 1 at least
   places-low : (v : ℕ) → places from to (low v) ≡ max 1 (from v)
   unfolding places
   places-low v = let e : (2 * v) / 2 ≡ v = omega arith in rw (eq-eqb ((2 * v) % 2) 0 (omega arith), e)
 
+  -- the high side of a vertex has the place where it ends, 1 at least
   places-high : (v : ℕ) → places from to (high v) ≡ max 1 (to v)
   unfolding places
   places-high v = let e : (2 * v + 1) / 2 ≡ v = omega arith in rw (ne-eqb ((2 * v + 1) % 2) 0 (λ z. omega arith), e)
@@ -49,6 +51,7 @@ module _ (j : Job) (ok : Passes j) (some-room : 0 < length j) (w : Way j) (c : S
       let (e, m, q) = every-kind j ok (opp (w .to)) i h in
       omega (arith, met i h e m .1 q, thick (e .to) (entry-ok j ok i h e m .below))
 
+  -- the places do what the job says
   obeys : Obeys (w .axis) (places from to) j
   obeys = record {
     own = λ i h. rw (places-low from to (4 + i), places-high from to (4 + i)) (omega (arith, positive i h, thick (4 + i) (omega arith)));
@@ -64,10 +67,12 @@ module _ (j : Job) (ok : Passes j) (some-room : 0 < length j) (w : Way j) (c : S
     };
   }
 
+  -- no wall number is larger than the place of its side
   least : (n : ℕ) → w .number-of n ≤ places from to n
   least = numbers-least (w .axis) j (w .number-of) (places from to) (w .numbers) (λ s. unfold places in omega arith)
       (obeys-respects (w .axis) (places from to) j obeys)
 
+  -- ours is no larger at any side of a room, nor at the first and the last frame side's wall
   pub no-larger : NoLarger j (w .number-of) from to (num (opp (w .to))) (num (w .to))
   no-larger = record {
     at-low = λ i h. omega (arith, rw (places-low from to (4 + i)) at (least (low (4 + i))), positive i h);
@@ -91,6 +96,7 @@ pub record Placing (j : Job) (p : Plan) : Type 0 where
   pub met : (u : ℕ) → Room j u → (e : Entry) → List·Memᴰ e (starOf j u) → Stands (e .kind) (rectOf p u) (rectOf p (e .to))
 
 module _ (j : Job) (ok : Passes j) (some-room : 0 < length j) (p : Plan) (g : Placing j p) where
+  -- each entry's neighbour stands on the side of its kind
   stands : (i : ℕ) → i < length j → (e : Entry) → List·Memᴰ e (getD j i []) → (k : ℕ) → e .kind ≡ k → Stands k (rectOf p (4 + i)) (rectOf p (e .to))
   stands i h e m k q = rw q at (g .met (4 + i) (omega arith, omega arith) e (rw (star-at j i) m))
 
@@ -112,6 +118,7 @@ module _ (j : Job) (ok : Passes j) (some-room : 0 < length j) (p : Plan) (g : Pl
             stands i h e m 0 q in (omega (arith, s .starts, s .ends′), omega (arith, s .starts′, s .ends)),
       ))
 
+  -- no level number is larger than the place of that side in any such placing
   pub nothing-lower : (f : ℕ → ℕ) → Numbers (rules level j) f → NoLarger j f (λ v. rectOf p v .y1) (λ v. rectOf p v .y2) 2 0
   nothing-lower f n =
       no-larger j ok some-room (record {

@@ -37,18 +37,22 @@ unfoldable pub turned : Place → Side → Piece → Piece → Piece → Bool
 turned p k u a b = eqb (p .at (next k) a) (p .at (next k) u) && ltb (p .at k u) (p .at k b) || ltb (p .at (next k) u) (p .at (next k) a) && eqb
     (p .at k b) (p .at k u)
 
+-- the test whether the list has a first that passes
 unfoldable pub atFirst : (Piece → Bool) → List Piece → Bool
 atFirst f [] = false
 atFirst f (v ∷ l) = f v
 
+-- the test whether the list has a last that passes
 unfoldable pub atLast : (Piece → Bool) → List Piece → Bool
 atLast f [] = false
 atLast f (v ∷ []) = f v
 atLast f (v ∷ w ∷ l) = atLast f (w ∷ l)
 
+-- on side k of room i the list abuts, and at the corner to the next side one ends flush and the other goes past
 unfoldable pub sideOk : Stars → Place → ℕ → Side → Bool
 sideOk s p i k = abuts p k (s .list k i) && atLast (λ a. atFirst (λ b. turned p k (room i) a b) (s .list (next k) i)) (s .list k i)
 
+-- all four sides
 abbrev pub sides : List Side
 sides = up ∷ left ∷ down ∷ right ∷ []
 
@@ -69,34 +73,40 @@ abuts-linked p k (v ∷ w ∷ l) e =
     let (a, b) = and-parts (eqb (p .at (next k) v + p .at (prev k) w) (size p (next k))) (abuts p k (w ∷ l)) e in
     (eqb-true (p .at (next k) v + p .at (prev k) w) (size p (next k)) a, abuts-linked p k (w ∷ l) b)
 
+-- a list in which each abuts the next passes the test
 linked-abuts : (p : Place) (k : Side) (l : List Piece) → Linked (λ a b. p .at (next k) a + p .at (prev k) b ≡ size p (next k)) l → abuts p k l ≡ true
 unfolding abuts
 linked-abuts p k [] h = refl
 linked-abuts p k (v ∷ []) h = refl
 linked-abuts p k (v ∷ w ∷ l) h = rw (eq-eqb (p .at (next k) v + p .at (prev k) w) (size p (next k)) (h .0)) (linked-abuts p k (w ∷ l) (h .1))
 
+-- where what passes has P, a list whose first passes has a first with P
 first-test : (f : Piece → Bool) (P : Piece → Type 0) (l : List Piece) → ((v : Piece) → f v ≡ true → P v) → atFirst f l ≡ true → AtFirst P l
 unfolding atFirst
 first-test f P [] h e = no-false e
 first-test f P (v ∷ l) h e = h v e
 
+-- where what has P passes, a list whose first has P has a first that passes
 test-first : (f : Piece → Bool) (P : Piece → Type 0) (l : List Piece) → ((v : Piece) → P v → f v ≡ true) → AtFirst P l → atFirst f l ≡ true
 unfolding atFirst
 test-first f P [] h e = absurd e
 test-first f P (v ∷ l) h e = h v e
 
+-- where what passes has P, a list whose last passes has a last with P
 last-test : (f : Piece → Bool) (P : Piece → Type 0) (l : List Piece) → ((v : Piece) → f v ≡ true → P v) → atLast f l ≡ true → AtLast P l
 unfolding atLast
 last-test f P [] h e = no-false e
 last-test f P (v ∷ []) h e = h v e
 last-test f P (v ∷ w ∷ l) h e = last-test f P (w ∷ l) h e
 
+-- where what has P passes, a list whose last has P has a last that passes
 test-last : (f : Piece → Bool) (P : Piece → Type 0) (l : List Piece) → ((v : Piece) → P v → f v ≡ true) → AtLast P l → atLast f l ≡ true
 unfolding atLast
 test-last f P [] h e = absurd e
 test-last f P (v ∷ []) h e = h v e
 test-last f P (v ∷ w ∷ l) h e = test-last f P (w ∷ l) h e
 
+-- a corner that passes has one that ends flush and another that goes past
 turned-turns : (p : Place) (k : Side) (u a b : Piece) → turned p k u a b ≡ true → Rounds p k u a b
 unfolding turned
 turned-turns p k u a b e = go (or-cases (eqb (p .at (next k) a) (p .at (next k) u) && ltb (p .at k u) (p .at k b))
@@ -109,6 +119,7 @@ turned-turns p k u a b e = go (or-cases (eqb (p .at (next k) a) (p .at (next k) 
     go (inr f) = let (x, y) = and-parts (ltb (p .at (next k) u) (p .at (next k) a)) (eqb (p .at k b) (p .at k u)) f in inr
         (ltb-true (p .at (next k) u) (p .at (next k) a) x, eqb-true (p .at k b) (p .at k u) y)
 
+-- a corner where one ends flush and the other goes past passes
 turns-turned : (p : Place) (k : Side) (u a b : Piece) → Rounds p k u a b → turned p k u a b ≡ true
 unfolding turned
 turns-turned p k u a b (inl e) = rw (eq-eqb (p .at (next k) a) (p .at (next k) u) (e .0), lt-ltb (p .at k u) (p .at k b) (e .1))
@@ -116,6 +127,7 @@ turns-turned p k u a b (inr e) = or-right (eqb (p .at (next k) a) (p .at (next k
     (ltb (p .at (next k) u) (p .at (next k) a) && eqb (p .at k b) (p .at k u))
     (rw (lt-ltb (p .at (next k) u) (p .at (next k) a) (e .0), eq-eqb (p .at k b) (p .at k u) (e .1)))
 
+-- each side is among the four
 side-mem : (k : Side) → List·Memᴰ k sides
 side-mem up = List·Memᴰ·head refl
 side-mem left = List·Memᴰ·tail (List·Memᴰ·head refl)
@@ -131,6 +143,7 @@ lists-mem s k h =
     let z : piece (e .to) ≡ side k = ap piece (eqb-true (e .to) (num k) a) ∙ piece-number (side k) in
     rw z at (entry-mem s (num k) e m (eqb-true (e .kind) (num k) b))
 
+-- a star with the frame side k in its list of kind k passes the test
 mem-lists : (s : Star) (k : Side) → List·Memᴰ (side k) (map piece (listOf s (num k))) → lists s (num k) (num k) ≡ true
 unfolding lists
 mem-lists s k h =
@@ -138,22 +151,27 @@ mem-lists s k h =
     mem-any (λ e. eqb (e .to) (num k) && eqb (e .kind) (num k)) s e m (rw (eq-eqb (e .to) (num k) t, eq-eqb (e .kind) (num k) w))
 
 module _ (j : Job) (ok : Passes j) where
+  -- the job's stars are lawful
   g : Lawful (starsOf j)
   g = lawful j ok
 
+  -- a room that passes the test lists W and S
   base-of : (i : ℕ) → i < length j → isBase j i ≡ true → Base (starsOf j) i
   unfolding isBase starsOf
   base-of i h e =
       let (a, b) = and-parts (lists (getD j i []) 1 1) (lists (getD j i []) 2 2) e in
       (h, lists-mem (getD j i []) left a, lists-mem (getD j i []) down b)
 
+  -- a room that lists W and S passes the test
   of-base : (i : ℕ) → Base (starsOf j) i → isBase j i ≡ true
   unfolding isBase starsOf
   of-base i b = rw (mem-lists (getD j i []) left (b .1), mem-lists (getD j i []) down (b .2))
 
+  -- 1 for a room that lists W and S, else 0
   abbrev one : ℕ → ℕ
   one i = cond (isBase j i) 1 0
 
+  -- a room that counts lists W and S
   one-true : (i : ℕ) → 0 < one i → isBase j i ≡ true
   one-true i h = go (isBase j i) h
     where
@@ -161,9 +179,11 @@ module _ (j : Job) (ok : Passes j) where
       go true h = refl
       go false h = absurd (omega arith)
 
+  -- a room that lists W and S counts 1
   true-one : (i : ℕ) → isBase j i ≡ true → one i ≡ 1
   true-one i e = rw e
 
+  -- a room that does not list both W and S counts 0
   false-one : (i : ℕ) → (isBase j i ≡ true → ⊥) → one i ≡ 0
   false-one i h = go (isBase j i) h
     where

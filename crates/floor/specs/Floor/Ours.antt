@@ -30,18 +30,23 @@ pub record Way (j : Job) : Type 0 where
 
 -- ONE DIRECTION
 module _ (j : Job) (ok : Passes j) (w : Way j) where
+  -- the direction's kinds
   abbrev a : Axis
   a = w .axis
 
+  -- the side to which the direction leads
   abbrev k : Side
   k = w .to
 
+  -- the direction's wall numbers
   abbrev f : ℕ → ℕ
   f = w .number-of
 
+  -- they are the numbers by the text
   abbrev n : Numbers (rules a j) f
   n = w .numbers
 
+  -- the wall numbers do what the job says
   pub obeyed : Obeys a f j
   obeyed = respects-obeys a f j (numbers-respects (rules a j) f n)
 
@@ -60,6 +65,7 @@ module _ (j : Job) (ok : Passes j) (w : Way j) where
           let c : f (high (e .to)) ≡ f (high (4 + r)) = ap (λ v. f (high v)) x in
           omega (arith, below r (omega arith) hr)
 
+  -- no room's low wall has a smaller number than the first frame side's wall
   pub from-first : (i : ℕ) → i < length j → f (high (num (opp k))) ≤ f (low (4 + i))
   from-first i h = lowest (f (low (4 + i))) i (omega arith) h
 
@@ -78,6 +84,7 @@ module _ (j : Job) (ok : Passes j) (w : Way j) where
           let c : f (low (e .to)) ≡ f (low (4 + r)) = ap (λ v. f (low v)) x in
           omega (arith, below r hr (omega arith))
 
+  -- no room whose high wall is at most m below n + 1 reaches past the last frame side
   highest : (m i : ℕ) → 1 + length j ≤ f (high (4 + i)) + m → i < length j → f (high (4 + i)) ≤ f (low (num k))
   highest zero i l h = one-ahead i h (λ r hr q. absurd (omega (arith, job-bound a j (to-vertex j ok) f n (high (4 + r)))))
   highest (suc m) i l h = one-ahead i h (λ r hr q. highest m r (omega arith) hr)
@@ -88,6 +95,7 @@ module _ (j : Job) (ok : Passes j) (w : Way j) where
     pub own : f (low (4 + i)) + 1 ≤ f (high (4 + i))
     pub last : f (high (4 + i)) ≤ f (low (num k))
 
+  -- a room begins at 1 or later, is at least 1 thick, and ends at the last frame side's wall or before
   pub lies : (i : ℕ) → i < length j → Lies i
   lies i h = record { first = numbers-positive (rules a j) f n (low (4 + i)); own = obeyed .own i h; last = highest (1 + length j) i (omega arith) h }
 
@@ -123,6 +131,7 @@ module _ (j : Job) (ok : Passes j) (w : Way j) where
   unfolding starsOf
   far-wall i v h m = let (e, me, ke, te) = mem-entry v (getD j i []) (num k) m in rw (← te) (obeyed .each i h e me .if-far (ke ∙ sym (w .is-far)))
 
+  -- what stands in the list of the opposite side lies on one wall with the room's low side
   pub near-wall : (i : ℕ) (v : Piece) → i < length j → List·Memᴰ v (starsOf j .list (opp k) i) → f (high (number v)) ≡ f (low (4 + i))
   unfolding starsOf
   near-wall i v h m = let (e, me, ke, te) = mem-entry v (getD j i []) (num (opp k)) m in rw (← te) (obeyed .each i h e me .if-near (ke ∙ sym (w .is-near)))
@@ -139,12 +148,15 @@ module _ (j : Job) (ok : Passes j) (w : Way j) where
 -- across, the frame sides span from lo to hi, past every room
 module _ (j : Job) (ok : Passes j) (w v : Way j) (across : v .axis .cross ≡ num (w .to)) (lo hi : ℕ) (from : lo ≤ 1)
     (past : v .number-of (low (num (v .to))) ≤ hi) where
+  -- the wall numbers along the contacts
   abbrev along : ℕ → ℕ
   along = w .number-of
 
+  -- the wall numbers across
   abbrev aside : ℕ → ℕ
   aside = v .number-of
 
+  -- a room and a room in its list stand on one wall, with a unit stretch of it on both
   room-room : (i r : ℕ) → i < length j → r < length j → List·Memᴰ (room r) (starsOf j .list (w .to) i)
       → Wall (along (high (4 + i))) (aside (low (4 + i))) (aside (high (4 + i))) (along (low (4 + r))) (aside (low (4 + r))) (aside (high (4 + r)))
   room-room i r hi hr m =
@@ -154,6 +166,7 @@ module _ (j : Job) (ok : Passes j) (w v : Way j) (across : v .axis .cross ≡ nu
       wall-at (along (high (4 + i))) (aside (low (4 + i))) (aside (high (4 + i))) (along (low (4 + r))) (aside (low (4 + r))) (aside (high (4 + r)))
       (far-wall j ok w i (room r) hi m) (omega (arith, a .own)) (omega (arith, b .own)) (omega arith) (omega arith)
 
+  -- a room that lists the last frame side stands on one wall with it, with a unit stretch of it on both
   room-frame : (i e : ℕ) → i < length j → along (low (num (w .to))) ≡ e → List·Memᴰ (side (w .to)) (starsOf j .list (w .to) i)
       → Wall (along (high (4 + i))) (aside (low (4 + i))) (aside (high (4 + i))) e lo hi
   room-frame i e h q m =
@@ -167,6 +180,7 @@ module _ (j : Job) (ok : Passes j) (w v : Way j) (across : v .axis .cross ≡ nu
         ends′ = omega (arith, a .own, a .last);
       }
 
+  -- a room that lists the first frame side stands on one wall with it, with a unit stretch of it on both
   frame-room : (r : ℕ) → r < length j → List·Memᴰ (side (opp (w .to))) (starsOf j .list (opp (w .to)) r)
       → Wall 1 lo hi (along (low (4 + r))) (aside (low (4 + r))) (aside (high (4 + r)))
   frame-room r h m =
@@ -187,6 +201,7 @@ room-rect j f g i h =
     let e : 4 + i ≡ suc (suc (suc (suc i))) = omega arith in
     rw e (getD-upFrom (roomRect f g) 4 (length j) i nowhere h ∙ ap (roomRect f g) e)
 
+-- the plan by numbers has a rectangle for each vertex, in vertex order
 pub plan-complete : (j : Job) (f g : ℕ → ℕ) → Complete j (planOf j f g)
 unfolding planOf rectOf roomRect rooms
 plan-complete j f g = record { count = omega (arith, length-map (rooms j) (roomRect f g), length-upFrom 4 (length j)); vertex = vertex }
@@ -201,6 +216,7 @@ plan-complete j f g = record { count = omega (arith, length-map (rooms j) (roomR
         let r : rectOf (planOf j f g) (4 + i) .vertex ≡ 4 + i = ap (λ r. r .vertex) (room-rect j f g i (omega arith)) in
         rw e at r
 
+-- its frame lies as it should: W and E full height, N and S between
 pub plan-framed : (j : Job) (f g : ℕ → ℕ) → Framed (planOf j f g)
 unfolding planOf rectOf
 plan-framed j f g = record {
@@ -220,21 +236,27 @@ plan-framed j f g = record {
 
 -- THE PLAN BY WALL NUMBERS
 module _ (j : Job) (ok : Passes j) (some-room : 0 < length j) (f g : ℕ → ℕ) (nf : Numbers (rules upright j) f) (ng : Numbers (rules level j) g) where
+  -- the plan by these wall numbers
   abbrev p : Plan
   p = planOf j f g
 
+  -- the direction of the upright walls leads to the right
   abbrev along-x : Way j
   along-x = record { axis = upright; to = right; is-far = refl; is-near = refl; number-of = f; numbers = nf }
 
+  -- the direction of the level walls leads up
   abbrev along-y : Way j
   along-y = record { axis = level; to = up; is-far = refl; is-near = refl; number-of = g; numbers = ng }
 
+  -- by the upright numbers each room lies between W and E
   x-lies : (i : ℕ) → i < length j → Lies j ok along-x i
   x-lies i h = lies j ok along-x i h
 
+  -- by the level numbers each room lies between S and N
   y-lies : (i : ℕ) → i < length j → Lies j ok along-y i
   y-lies i h = lies j ok along-y i h
 
+  -- each room's rectangle has at least a cell and lies inside the sheet
   room-inside : (i : ℕ) → i < length j → Inside p (rectOf p (4 + i))
   unfolding planOf roomRect
   room-inside i h =
@@ -275,6 +297,7 @@ module _ (j : Job) (ok : Passes j) (some-room : 0 < length j) (f g : ℕ → ℕ
           let e : 4 + i ≡ suc (suc (suc (suc i))) = omega arith in
           rw e at (room-inside i (omega arith))
 
+  -- no room reaches into the frame, on any side
   within : (k : Side) (i : ℕ) → i < length j → placeOf p .at k (room i) + placeOf p .at (opp k) (side k) ≤ size (placeOf p) k
   unfolding placeOf reach planOf rectOf roomRect
   within right i h = omega (arith, x-lies i h .last, ap (λ r. r .x2) (room-rect j f g i h))
@@ -282,18 +305,22 @@ module _ (j : Job) (ok : Passes j) (some-room : 0 < length j) (f g : ℕ → ℕ
   within up i h = omega (arith, y-lies i h .last, ap (λ r. r .y2) (room-rect j f g i h))
   within down i h = omega (arith, y-lies i h .first, ap (λ r. r .y1) (room-rect j f g i h))
 
+  -- N and S leave room between them
   gap : placeOf p .at up (side down) + placeOf p .at down (side up) < placeOf p .height
   unfolding placeOf reach planOf rectOf
   gap = let y : Lies j ok along-y 0 = y-lies 0 some-room in omega (arith, y .first, y .own, y .last)
 
+  -- who stands on a side of a piece, with a cell's length of wall, meets it there
   stand : (k : Side) (u v : Piece) → Known (starsOf j) u → Known (starsOf j) v → Stands (num k) (rectOf p (number u)) (rectOf p (number v))
       → Meets (placeOf p) k u v
   stand = stands-meets j p plan-inside
 
+  -- neighbouring frame sides meet on the side where they are neighbours
   frames : (k t r : Side) → Contact (starsOf j) k (side t) (side r) → Meets (placeOf p) k (side t) (side r)
   frames = frame-meets (starsOf j) (placeOf p) (framed-shape p (plan-framed j f g) (plan-inside 1 (omega arith)) (plan-inside 3 (omega arith)))
       (inside-place j p plan-inside) (thick-place j p plan-inside) gap
 
+  -- a contact to the right is met to the right
   meets-right : (u v : Piece) → Known (starsOf j) u → Known (starsOf j) v → Contact (starsOf j) right u v → Meets (placeOf p) right u v
   unfolding planOf rectOf roomRect starsOf
   meets-right (room i) (room r) hu hv m =
@@ -313,6 +340,7 @@ module _ (j : Job) (ok : Passes j) (some-room : 0 < length j) (f g : ℕ → ℕ
       e = lawful j ok .known left r (side t) hv m
   meets-right (side t) (side r) hu hv m = frames right t r m
 
+  -- a contact above is met above
   meets-up : (u v : Piece) → Known (starsOf j) u → Known (starsOf j) v → Contact (starsOf j) up u v → Meets (placeOf p) up u v
   unfolding planOf rectOf roomRect starsOf
   meets-up (room i) (room r) hu hv m =

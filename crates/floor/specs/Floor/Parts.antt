@@ -19,6 +19,7 @@ data Where (E : Piece → Piece → Type 0) (a b t : Piece) : Type 0 where
 
 module _ (R E : Piece → Piece → Type 0) (whole : List Piece)
     (give : (a b : Piece) → List·Memᴰ a whole → List·Memᴰ b whole → E a b → ((t : Piece) → List·Memᴰ t whole → Where E a b t) → R a b) where
+  -- what holds between two entries with nothing between them holds from each to the next of a list in order that ends the whole
   linked-of : (l : List Piece) → Ordered E l → ((t : Piece) → List·Memᴰ t l → List·Memᴰ t whole)
       → ((t : Piece) → List·Memᴰ t whole → List·Memᴰ t l ⊎ ((w : Piece) → List·Memᴰ w l → E t w)) → Linked R l
   linked-of [] o i c = tt
@@ -40,6 +41,7 @@ module _ (R E : Piece → Piece → Type 0) (whole : List Piece)
       rest t (inl (List·Memᴰ·tail m)) = inl m
       rest t (inr f) = inr (λ z m. f z (List·Memᴰ·tail m))
 
+-- what holds of an entry that all others follow holds of the first of a list in order
 first-of : (P : Piece → Type 0) (E : Piece → Piece → Type 0) (l : List Piece) → (l ≡ [] → ⊥) → Ordered E l
     → ((b : Piece) → List·Memᴰ b l → ((t : Piece) → List·Memᴰ t l → (t ≡ b) ⊎ E b t) → P b) → AtFirst P l
 first-of P E [] z o f = absurd (z refl)
@@ -49,6 +51,7 @@ first-of P E (v ∷ l) z o f = f v (List·Memᴰ·head refl) place
     place t (List·Memᴰ·head e) = inl e
     place t (List·Memᴰ·tail m) = inr (o .0 t m)
 
+-- what holds of an entry that follows all others holds of the last of a list in order
 last-of : (P : Piece → Type 0) (E : Piece → Piece → Type 0) (l : List Piece) → (l ≡ [] → ⊥) → Ordered E l
     → ((a : Piece) → List·Memᴰ a l → ((t : Piece) → List·Memᴰ t l → (t ≡ a) ⊎ E t a) → P a) → AtLast P l
 last-of P E [] z o f = absurd (z refl)
@@ -68,12 +71,15 @@ module _ (s : Stars) (p : Place) (sh : Shape p)
     (inside : (k : Side) (v : Piece) → Known s v → p .at k v ≤ size p k)
     (thick : (k : Side) (v : Piece) → Known s v → size p k < p .at k v + p .at (opp k) v)
     (alone : (k : Side) (x : Tile p k) (u v : Piece) → Known s u → Known s v → In p k x u → In p k x v → u ≡ v) where
+  -- every side of a vertex reaches at least one cell from the opposite edge of the sheet
   pos-of : (k : Side) (v : Piece) → Known s v → 1 ≤ p .at k v
   pos-of k v h = omega (arith, thick k v h, inside (opp k) v h, size-opp p k)
 
+  -- W and E leave room between them
   pub wide-gap-of : p .at right (side left) + p .at left (side right) < p .width
   wide-gap-of = omega (arith, sh .n-left, sh .n-right, thick left (side up) tt)
 
+  -- N and S leave room between them, where they do not meet
   pub gap-of : (Meets p up (side down) (side up) → ⊥) → p .at up (side down) + p .at down (side up) < p .height
   gap-of apart = go (decLt (p .at up (side down) + p .at down (side up)) (p .height)) (ℕ-discrete (p .at up (side down) + p .at down (side up)) (p .height))
     where
@@ -111,9 +117,11 @@ module _ (s : Stars) (p : Place) (sh : Shape p)
           absurd (omega arith)
 
 module _ (s : Stars) (p : Place) (g : Lawful s) (q : Good s p) where
+  -- each neighbour of a room is a vertex of the job
   known : (k : Side) (i : ℕ) (v : Piece) → i < s .count → List·Memᴰ v (s .list k i) → Known s v
   known k i v h m = named-known s k v (g .known k i v h m)
 
+  -- every side of a vertex reaches at least one cell from the opposite edge of the sheet
   pos : (k : Side) (v : Piece) → Known s v → 1 ≤ p .at k v
   pos = pos-of s p (q .shape) (q .inside) (q .thick) (q .alone)
 
@@ -144,6 +152,7 @@ module _ (s : Stars) (p : Place) (g : Lawful s) (q : Good s p) where
       let (t, ht, n) = q .cover k x in
       (t, q .joined k (room i) t h ht (next-to k (room i) t h ht x e hb hd n), n)
 
+  -- each neighbour of a room meets it on the side of its list
   meet : (k : Side) (i : ℕ) (v : Piece) → i < s .count → List·Memᴰ v (s .list k i) → Meets p k (room i) v
   meet k i v h m = q .meets k (room i) v h (known k i v h m) m
 
@@ -372,6 +381,7 @@ module _ (s : Stars) (p : Place) (g : Lawful s) (q : Good s p) where
       go (no e) (yes f) = inl (omega arith, f)
       go (no e) (no f) = absurd (both-flush e f)
 
+  -- at each corner of a room, of the last of one list and the first of the next one ends flush and the other goes past
   corners : (k : Side) (i : ℕ) → i < s .count → AtLast (λ a. AtFirst (λ b. Rounds p k (room i) a b) (s .list (next k) i)) (s .list k i)
   corners k i h =
       last-of (λ a. AtFirst (λ b. Rounds p k (room i) a b) (s .list (next k) i)) (Precedes p k) (s .list k i) (g .some k i h) (q .order k i h)
@@ -391,6 +401,7 @@ module _ (s : Stars) (p : Place) (g : Lawful s) (q : Good s p) where
     bd = omega (arith, pos (next k) v h, q .inside (next k) v h);
   }
 
+  -- a vertex covers its own corner cell
   in-own : (k : Side) (v : Piece) (h : Known s v) → In p k (own k v h) v
   unfolding own
   in-own k v h = record {
@@ -412,9 +423,11 @@ module _ (s : Stars) (p : Place) (g : Lawful s) (q : Good s p) where
           let z : _≡_ {A = ℕ} 0 1 = cc in
           absurd (omega arith)
 
+  -- the frame has its shape: W and E full height, N and S between
   sh : Shape p
   sh = q .shape
 
+  -- no room reaches into W
   within-left : (i : ℕ) → i < s .count → p .at left (room i) + p .at right (side left) ≤ p .width
   unfolding own
   within-left i h = within-of left i h (λ e. record {
@@ -424,6 +437,7 @@ module _ (s : Stars) (p : Place) (g : Lawful s) (q : Good s p) where
     ind = omega (arith, sh .w-up, pos down (room i) h, q .inside down (room i) h);
   })
 
+  -- no room reaches into E
   within-right : (i : ℕ) → i < s .count → p .at right (room i) + p .at left (side right) ≤ p .width
   unfolding own
   within-right i h = within-of right i h (λ e. record {
@@ -433,6 +447,7 @@ module _ (s : Stars) (p : Place) (g : Lawful s) (q : Good s p) where
     ind = omega (arith, sh .e-down, pos up (room i) h, q .inside up (room i) h);
   })
 
+  -- no room reaches into the frame, on any side
   within : (k : Side) (i : ℕ) → i < s .count → p .at k (room i) + p .at (opp k) (side k) ≤ size p k
   unfolding own
   within left i h = within-left i h
@@ -454,6 +469,7 @@ module _ (s : Stars) (p : Place) (g : Lawful s) (q : Good s p) where
   wide-gap : p .at right (side left) + p .at left (side right) < p .width
   wide-gap = wide-gap-of s p (q .shape) (q .inside) (q .thick) (q .alone)
 
+  -- N and S leave room between them
   gap : p .at up (side down) + p .at down (side up) < p .height
   gap = gap-of s p (q .shape) (q .inside) (q .thick) (q .alone) (λ m. none (q .joined up (side down) (side up) tt tt m))
     where
@@ -471,6 +487,7 @@ module _ (s : Stars) (p : Place) (g : Lawful s) (q : Good s p) where
     bd = omega (arith, gap);
   }
 
+  -- some room lists both W and S
   base : (i : ℕ) × Base s i
   unfolding first-cell
   base = let (v, h, n) = q .cover left first-cell in go v h n
@@ -497,6 +514,7 @@ module _ (s : Stars) (p : Place) (g : Lawful s) (q : Good s p) where
         ),
       )
 
+  -- only one room lists both W and S
   base-one : (i j : ℕ) → Base s i → Base s j → i ≡ j
   unfolding first-cell
   base-one i j bi bj =

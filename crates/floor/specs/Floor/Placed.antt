@@ -34,6 +34,7 @@ unfoldable pub tile-at : (p : Plan) (x y : ℕ) → x < p .width → y < p .heig
 unfolding placeOf
 tile-at p x y hx hy = record { a = p .width - 1 - x; b = p .height - 1 - y; c = x; d = y; ac = omega arith; bd = omega arith }
 
+-- a point of the sheet, seen towards the left
 unfoldable pub knot-at : (p : Plan) (x y : ℕ) → x ≤ p .width → y ≤ p .height → Knot (placeOf p) left
 unfolding placeOf
 knot-at p x y hx hy = record { a = p .width - x; b = p .height - y; c = x; d = y; ac = omega arith; bd = omega arith }
@@ -68,9 +69,11 @@ framed-shape p r w e = record {
 }
 
 module _ (j : Job) (p : Plan) (ins : (v : ℕ) → Vertex j v → Inside p (rectOf p v)) where
+  -- the rectangle of each piece has at least a cell and lies inside the sheet
   pub inside-of : (v : Piece) → Known (starsOf j) v → Inside p (rectOf p (number v))
   inside-of v h = ins (number v) (known-vertex j v h)
 
+  -- no side of a piece reaches over the edge of the sheet
   pub inside-place : (k : Side) (v : Piece) → Known (starsOf j) v → placeOf p .at k v ≤ size (placeOf p) k
   unfolding placeOf reach
   inside-place right v h = inside-of v h .in-width
@@ -78,6 +81,7 @@ module _ (j : Job) (p : Plan) (ins : (v : ℕ) → Vertex j v → Inside p (rect
   inside-place up v h = inside-of v h .in-height
   inside-place down v h = omega arith
 
+  -- each piece is at least a cell thick, in every direction
   pub thick-place : (k : Side) (v : Piece) → Known (starsOf j) v → size (placeOf p) k < placeOf p .at k v + placeOf p .at (opp k) v
   unfolding placeOf reach
   thick-place right v h = let i : Inside p (rectOf p (number v)) = inside-of v h in omega (arith, i .wide, i .in-width)
@@ -114,6 +118,7 @@ module _ (j : Job) (p : Plan) (ins : (v : ℕ) → Vertex j v → Inside p (rect
         behind = omega (arith, w .starts, w .ends′, i .tall, i .in-height);
       }
 
+  -- who meets a piece on a side stands there with a cell's length of wall
   pub meets-stands : (k : Side) (u v : Piece) → Known (starsOf j) u → Known (starsOf j) v → Meets (placeOf p) k u v
       → Stands (num k) (rectOf p (number u)) (rectOf p (number v))
   unfolding placeOf reach
@@ -152,10 +157,12 @@ module _ (j : Job) (p : Plan) (ins : (v : ℕ) → Vertex j v → Inside p (rect
         ind = m .upper;
       }
 
+  -- a cell that a piece covers lies in its rectangle
   pub in-cell : (x : Tile (placeOf p) left) (v : Piece) → In (placeOf p) left x v → Cell (rectOf p (number v)) (x .c) (x .d)
   unfolding placeOf reach
   in-cell x v m = record { left = omega (arith, m .ina, x .ac); right = m .inc; lower = omega (arith, m .inb, x .bd); upper = m .ind }
 
+  -- a cell of the sheet that lies in a vertex's rectangle is covered by its piece
   pub cell-at : (x y n : ℕ) → Vertex j n → (hx : x < p .width) (hy : y < p .height) → Cell (rectOf p n) x y
       → In (placeOf p) left (tile-at p x y hx hy) (piece n)
   unfolding tile-at
@@ -171,6 +178,7 @@ module _ (j : Job) (p : Plan) (ins : (v : ℕ) → Vertex j v → Inside p (rect
     ond = rw (number-piece n) (m .upper);
   }
 
+  -- a point that a piece holds lies in its rectangle
   pub on-point : (x : Knot (placeOf p) left) (v : Piece) → On (placeOf p) left x v → Known (starsOf j) v → Point (rectOf p (number v)) (x .c) (x .d)
   unfolding placeOf reach
   on-point x v m h =
@@ -193,6 +201,7 @@ module _ (j : Job) (p : Plan) (ins : (v : ℕ) → Vertex j v → Inside p (rect
       let (v, h, n) = covered (x .c) (x .d) (omega (arith, x .ac)) (omega (arith, x .bd)) in
       (piece v, known-piece j v h, cell-in x (piece v) (known-piece j v h) (rw (number-piece v) n)))
 
+  -- where no cell lies in the rectangles of two vertices, no cell is covered by two pieces, in any direction
   pub alone-place : ((x y u v : ℕ) → Vertex j u → Vertex j v → Cell (rectOf p u) x y → Cell (rectOf p v) x y → u ≡ v)
       → (k : Side) (x : Tile (placeOf p) k) (u v : Piece) → Known (starsOf j) u → Known (starsOf j) v → In (placeOf p) k x u → In (placeOf p) k x v → u ≡ v
   alone-place once =
@@ -209,6 +218,7 @@ module _ (j : Job) (p : Plan) (ins : (v : ℕ) → Vertex j v → Inside p (rect
   onward-precedes down a b ha hb e = inr (rw (number-piece a, number-piece b) (omega (arith, ins b hb .wide, ins b hb .in-width)))
   onward-precedes right a b ha hb e = inr (rw (number-piece a, number-piece b) (omega (arith, ins b hb .tall, ins b hb .in-height)))
 
+  -- where later entries of one kind stand onward, the list of each kind is in order
   pub order-lists : (k : Side) (s : Star) → ((e : Entry) → List·Memᴰ e s → Vertex j (e .to)) → ((d e : Entry) → Earlier d e s → d .kind ≡ e .kind
       → Onward (d .kind) (rectOf p (d .to)) (rectOf p (e .to)))
       → Ordered (Precedes (placeOf p) k) (map piece (listOf s (num k)))
@@ -235,6 +245,7 @@ module _ (j : Job) (p : Plan) (ins : (v : ℕ) → Vertex j v → Inside p (rect
 abbrev pub Strict : Plan → Side → Piece → Piece → Type 0
 Strict p k v w = (placeOf p .at (next k) v < placeOf p .at (next k) w) × (placeOf p .at (prev k) w < placeOf p .at (prev k) v)
 
+-- of two that are in order on both ends, the second stands onward of the first
 strict-onward : (p : Plan) (k : Side) (a b : ℕ) → Strict p k (piece a) (piece b) → Onward (num k) (rectOf p a) (rectOf p b)
 unfolding placeOf reach
 strict-onward p up a b e = let f : p .width - rectOf p (number (piece a)) .x1 < p .width - rectOf p (number (piece b)) .x1 =
@@ -246,6 +257,7 @@ strict-onward p down a b e = let f : p .width - rectOf p (number (piece b)) .x1 
 strict-onward p right a b e = let f : p .height - rectOf p (number (piece b)) .y1 < p .height - rectOf p (number (piece a)) .y1 =
     e .1 in omega (arith, rw (number-piece a, number-piece b) at f)
 
+-- where the lists are in order on both ends, later entries of one kind stand onward
 pub lists-order : (p : Plan) (s : Star) → ((e : Entry) → List·Memᴰ e s → e .kind < 4) → ((k : Side) → Ordered (Strict p k) (map piece (listOf s (num k))))
     → (d e : Entry) → Earlier d e s → d .kind ≡ e .kind → Onward (d .kind) (rectOf p (d .to)) (rectOf p (e .to))
 unfolding listOf keep

@@ -23,10 +23,12 @@ num left = 1
 num down = 2
 num right = 3
 
+-- the number of a piece: a frame side has that of its kind, the rooms go on from 4
 abbrev pub number : Piece → ℕ
 number (side t) = num t
 number (room i) = 4 + i
 
+-- the piece of a number: a frame side, or from 4 on a room
 unfoldable pub piece : ℕ → Piece
 piece zero = side up
 piece (suc zero) = side left
@@ -34,10 +36,12 @@ piece (suc (suc zero)) = side down
 piece (suc (suc (suc zero))) = side right
 piece (suc (suc (suc (suc i)))) = room i
 
+-- number 4 + i is the room at place i
 pub piece-room : (i : ℕ) → piece (4 + i) ≡ room i
 unfolding piece
 piece-room i = rw (let e : 4 + i ≡ suc (suc (suc (suc i))) = omega arith in e)
 
+-- the piece of a number has that number
 pub number-piece : (n : ℕ) → number (piece n) ≡ n
 unfolding piece
 number-piece zero = refl
@@ -46,6 +50,7 @@ number-piece (suc (suc zero)) = refl
 number-piece (suc (suc (suc zero))) = refl
 number-piece (suc (suc (suc (suc i)))) = omega arith
 
+-- the piece of a piece's number is that piece
 pub piece-number : (v : Piece) → piece (number v) ≡ v
 unfolding piece
 piece-number (side up) = refl
@@ -54,9 +59,11 @@ piece-number (side down) = refl
 piece-number (side right) = refl
 piece-number (room i) = piece-room i
 
+-- pieces of one number are one
 pub number-same : (u v : Piece) → number u ≡ number v → u ≡ v
 number-same u v e = sym (piece-number u) ∙ ap piece e ∙ piece-number v
 
+-- numbers of one piece are one
 pub piece-same : (u v : ℕ) → piece u ≡ piece v → u ≡ v
 piece-same u v e = sym (number-piece u) ∙ ap number e ∙ number-piece v
 
@@ -67,6 +74,7 @@ few-sides left = omega arith
 few-sides down = omega arith
 few-sides right = omega arith
 
+-- each kind is the number of a side
 pub kind-side : (n : ℕ) → n < 4 → (k : Side) × (num k ≡ n)
 kind-side zero h = (up, refl)
 kind-side (suc zero) h = (left, refl)
@@ -74,12 +82,14 @@ kind-side (suc (suc zero)) h = (down, refl)
 kind-side (suc (suc (suc zero))) h = (right, refl)
 kind-side (suc (suc (suc (suc n)))) h = absurd (omega arith)
 
+-- sides of one number are one
 pub num-injective : (t k : Side) → num t ≡ num k → t ≡ k
 num-injective t k e = from (number-same (side t) (side k) e)
   where
     from : side t ≡ side k → t ≡ k
     from q = cc
 
+-- the opposite of a side's kind is the kind of the opposite side
 pub opposite-num : (k : Side) → opposite (num k) ≡ num (opp k)
 unfolding opposite
 opposite-num up = refl
@@ -105,6 +115,7 @@ mem-entry v (e ∷ s) n m = go (eqb (e .kind) n) refl m (mem-entry v s n)
     go true h (List·Memᴰ·tail m) below = let (d, i, a, b) = below m in (d, List·Memᴰ·tail i, a, b)
     go false h m below = let (d, i, a, b) = below m in (d, List·Memᴰ·tail i, a, b)
 
+-- an entry of a kind stands in the list of that kind
 pub entry-mem : (s : Star) (n : ℕ) (e : Entry) → List·Memᴰ e s → e .kind ≡ n → List·Memᴰ (piece (e .to)) (map piece (listOf s n))
 unfolding listOf keep
 entry-mem (d ∷ s) n e (List·Memᴰ·head q) k = rw (eq-eqb (d .kind) n (ap (λ z. z .kind) (sym q) ∙ k)) (List·Memᴰ·head (ap (λ z. piece (z .to)) q))
@@ -121,6 +132,7 @@ unfolding starsOf
 known-vertex j (side t) h = omega (arith, few-sides t)
 known-vertex j (room i) h = omega arith
 
+-- a vertex of the job is a piece of the job
 pub known-piece : (j : Job) (n : ℕ) → Vertex j n → Known (starsOf j) (piece n)
 unfolding starsOf piece
 known-piece j zero h = tt
@@ -150,6 +162,7 @@ module _ (j : Job) (ok : Passes j) where
       go (yes l) = inl (sym (entry-ok i h e m .frame l) ∙ ke)
       go (no l) = inr (e .to - 4, omega (arith, entry-ok i h e m .below), omega arith)
 
+  -- who stands in the list of a side is the frame side of its kind, or a room of the job
   known : (k : Side) (i : ℕ) (v : Piece) → i < length j → List·Memᴰ v (map piece (listOf (getD j i []) (num k))) → Named (starsOf j) k v
   unfolding starsOf
   known k i v h m = let (e, me, ke, te) = mem-entry v (getD j i []) (num k) m in go v e te (leads k i h e me ke)

@@ -6,6 +6,7 @@ use mathlib.Core.Logic.{_⊎_}
 use mathlib.Core.List.{List, [], _∷_, List·Memᴰ}
 use Prim.Native.Nat.{ℕ, _+_, _≤_, _<_}
 
+-- the four sides, in the order of the kinds
 pub data Side : Type 0 where
   up left down right : Side
 
@@ -16,12 +17,15 @@ next left = down
 next down = right
 next right = up
 
+-- the opposite side
 abbrev pub opp : Side → Side
 opp k = next (next k)
 
+-- the side before, clockwise
 abbrev pub prev : Side → Side
 prev k = next (next (next k))
 
+-- the side after the one before a side is that side
 pub round : (k : Side) → next (prev k) ≡ k
 round up = refl
 round left = refl
@@ -40,12 +44,14 @@ pub data Piece : Type 0 where
   side : Side → Piece
   room : ℕ → Piece
 
+-- a placement: the sheet's width and height, and each vertex on it
 pub record Place : Type 0 where
   pub width : ℕ
   pub height : ℕ
   -- how far side k of a vertex reaches
   pub at : Side → Piece → ℕ
 
+-- how large the sheet is in the direction of a side
 abbrev pub size : Place → Side → ℕ
 size p up = p .height
 size p left = p .width
@@ -57,6 +63,7 @@ pub record Stars : Type 0 where
   pub count : ℕ
   pub list : Side → ℕ → List Piece
 
+-- a frame side, or one of the job's rooms
 abbrev pub Known : Stars → Piece → Type 0
 Known s (side t) = Unit {0}
 Known s (room i) = i < s .count
@@ -116,16 +123,19 @@ abbrev pub AtFirst : (Piece → Type 0) → List Piece → Type 0
 AtFirst P [] = ⊥
 AtFirst P (v ∷ l) = P v
 
+-- the list has a last, which has P
 abbrev pub AtLast : (Piece → Type 0) → List Piece → Type 0
 AtLast P [] = ⊥
 AtLast P (v ∷ []) = P v
 AtLast P (v ∷ w ∷ l) = AtLast P (w ∷ l)
 
+-- each of the list stands in R to the next
 abbrev pub Linked : (Piece → Piece → Type 0) → List Piece → Type 0
 Linked R [] = Unit {0}
 Linked R (v ∷ []) = Unit {0}
 Linked R (v ∷ w ∷ l) = R v w × Linked R (w ∷ l)
 
+-- each of the list stands in R to every later one
 abbrev pub Ordered : (Piece → Piece → Type 0) → List Piece → Type 0
 Ordered R [] = Unit {0}
 Ordered R (v ∷ l) = ((w : Piece) → List·Memᴰ w l → R v w) × Ordered R l

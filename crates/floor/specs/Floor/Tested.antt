@@ -20,6 +20,7 @@ use Rattle.floor.specs.Floor.Bridge.{meets-two, covered, once, plan-good
 use Rattle.floor.specs.Floor.Draws.{Touch, Draws, drawable-draws, draws-drawable}
 use Rattle.floor.specs.Floor.Area.{cells-areas, areas-cells}
 
+-- one of two, told in the other order
 swap : {X Y : Type 0} → X ⊎ Y → Y ⊎ X
 swap (inl x) = inr x
 swap (inr y) = inl y
@@ -35,6 +36,7 @@ either-less u v ne = go (decLt u v)
 module _ (j : Job) (ok : Passes j) (p : Plan) (c : Complete j p) where
   -- A GOOD PLAN PASSES
   module _ (gp : GoodPlan j p) where
+    -- the placement of a good plan is good
     g : Good (starsOf j) (placeOf p)
     g = plan-good j ok p gp
 
@@ -81,6 +83,7 @@ module _ (j : Job) (ok : Passes j) (p : Plan) (c : Complete j p) where
             (rw (number-piece u, number-piece v) (tif (p .width) (rectOf p v .x2) (rectOf p u .x1) e (omega (arith, iu .wide, iu .in-width))))
             (rw (number-piece u, number-piece v) (tif (p .height) (rectOf p v .y2) (rectOf p u .y1) f (omega (arith, iu .tall, iu .in-height))))
 
+    -- a good plan passes the drawing test
     pub good-drawable : drawable j p ≡ true
     good-drawable = draws-drawable j p c (record {
       inside = gp .inside;
@@ -93,9 +96,11 @@ module _ (j : Job) (ok : Passes j) (p : Plan) (c : Complete j p) where
 
   -- A PLAN THAT MEETS ITS CONTACTS AND PASSES IS GOOD
   module _ (some-room : 0 < length j) (ft : Fits (starsOf j) (placeOf p)) (dr : drawable j p ≡ true) where
+    -- the facts that the drawing test tells of the plan
     d : Draws j p
     d = drawable-draws j p c dr
 
+    -- no cell lies in the rectangles of two vertices
     alone-cell : (x y u v : ℕ) → Vertex j u → Vertex j v → Cell (rectOf p u) x y → Cell (rectOf p v) x y → u ≡ v
     alone-cell x y u v hu hv a b = go (decLt u v) (decLt v u)
       where
@@ -104,6 +109,7 @@ module _ (j : Job) (ok : Passes j) (p : Plan) (c : Complete j p) where
         go (no l) (yes m) = absurd (d .apart v u m hu x y b a)
         go (no l) (no m) = omega arith
 
+    -- no two rectangles touch end to end both in x and in y
     crossed : (u v : Piece) → Known (starsOf j) u → Known (starsOf j) v
         → Touch (rectOf p (number u) .x1) (rectOf p (number u) .x2) (rectOf p (number v) .x1) (rectOf p (number v) .x2)
         → Touch (rectOf p (number u) .y1) (rectOf p (number u) .y2) (rectOf p (number v) .y1) (rectOf p (number v) .y2) → ⊥
@@ -117,6 +123,7 @@ module _ (j : Job) (ok : Passes j) (p : Plan) (c : Complete j p) where
         go (inl l) = d .corners (number u) (number v) l (known-vertex j v hv) e f
         go (inr l) = d .corners (number v) (number u) l (known-vertex j u hu) (swap e) (swap f)
 
+    -- no two pieces meet at a corner only
     corners : (k : Side) (u v : Piece) → Known (starsOf j) u → Known (starsOf j) v → placeOf p .at k u + placeOf p .at (opp k) v ≡ size (placeOf p) k
         → placeOf p .at (next k) u + placeOf p .at (prev k) v ≡ size (placeOf p) (next k) → ⊥
     unfolding placeOf reach
@@ -144,6 +151,7 @@ module _ (j : Job) (ok : Passes j) (p : Plan) (c : Complete j p) where
         go (inl l) = d .shares (number u) (number v) l (known-vertex j v hv) share
         go (inr l) = joined-back (d .shares (number v) (number u) l (known-vertex j u hu) back)
 
+    -- the placement of such a plan is good
     pub drawable-good : Good (starsOf j) (placeOf p)
     unfolding starsOf
     drawable-good = record {
@@ -160,5 +168,6 @@ module _ (j : Job) (ok : Passes j) (p : Plan) (c : Complete j p) where
           (rw (star-at j i) x));
     }
 
+    -- such a plan is good for the job, in the customer's words
     pub drawable-plan : GoodPlan j p
     drawable-plan = good-plan j ok p c drawable-good

@@ -13,11 +13,13 @@ pub first-map : {P Q : Piece → Type 0} (l : List Piece) → ((v : Piece) → L
 first-map [] f h = absurd h
 first-map (v ∷ l) f h = f v (List·Memᴰ·head refl) h
 
+-- where P gives Q for each of a list, and its last has P, its last has Q
 pub last-map : {P Q : Piece → Type 0} (l : List Piece) → ((v : Piece) → List·Memᴰ v l → P v → Q v) → AtLast P l → AtLast Q l
 last-map [] f h = absurd h
 last-map (v ∷ []) f h = f v (List·Memᴰ·head refl) h
 last-map (v ∷ w ∷ l) f h = last-map (w ∷ l) (λ x m. f x (List·Memᴰ·tail m)) h
 
+-- where P gives Q between any two of a list, and each stands in P to the next, each stands in Q to the next
 pub linked-map : {P Q : Piece → Piece → Type 0} (l : List Piece) → ((v w : Piece) → List·Memᴰ v l → List·Memᴰ w l → P v w → Q v w) → Linked P l → Linked Q l
 linked-map [] f h = tt
 linked-map (v ∷ []) f h = tt
@@ -32,17 +34,20 @@ pub first-some : {P : Piece → Type 0} (l : List Piece) → AtFirst P l → (v 
 first-some [] h = absurd h
 first-some (v ∷ l) h = (v, List·Memᴰ·head refl, h)
 
+-- some P on the last entry, whose list then has one
 pub last-some : {P : Piece → Type 0} (l : List Piece) → AtLast P l → (v : Piece) × List·Memᴰ v l × P v
 last-some [] h = absurd h
 last-some (v ∷ []) h = (v, List·Memᴰ·head refl, h)
 last-some (v ∷ w ∷ l) h = let (x, m, y) = last-some (w ∷ l) h in (x, List·Memᴰ·tail m, y)
 
+-- a linked list is linked without its first
 pub linked-tail : (R : Piece → Piece → Type 0) (v : Piece) (l : List Piece) → Linked R (v ∷ l) → Linked R l
 linked-tail R v [] k = tt
 linked-tail R v (w ∷ l) k = k .1
 
 -- A: past the start of an entry; B: past its end
 module _ (A B : Piece → Type 0) where
+  -- where the first is begun, the last not ended, and each begun where the one before is ended, some entry is begun and not ended
   find : ((v : Piece) → Dec (B v)) → (l : List Piece) → Linked (λ a b. B a → A b) l → AtFirst A l → AtLast (λ v. B v → ⊥) l
       → (v : Piece) × List·Memᴰ v l × A v × (B v → ⊥)
   find dec [] k f z = absurd f
@@ -53,10 +58,12 @@ module _ (A B : Piece → Type 0) where
       go (yes h) below = let (x, m, y, z) = below (k .0 h) in (x, List·Memᴰ·tail m, y, z)
       go (no h) below = (v, List·Memᴰ·head refl, f, h)
 
+  -- where none is begun before the one in front is ended, the first is ended as soon as any later one is begun
   pull : (v s : Piece) (l : List Piece) → Linked (λ a b. A b → B a) (v ∷ l) → ((w : Piece) → List·Memᴰ w l → B w → A w) → List·Memᴰ s l → A s → B v
   pull v s (w ∷ l) k g (List·Memᴰ·head e) h = k .0 (rw e at h)
   pull v s (w ∷ l) k g (List·Memᴰ·tail m) h = k .0 (g w (List·Memᴰ·head refl) (pull w s l (k .1) (λ x n. g x (List·Memᴰ·tail n)) m h))
 
+  -- where none is begun before the one in front is ended, only one entry is begun and not ended
   only : (l : List Piece) → Linked (λ a b. A b → B a) l → ((w : Piece) → List·Memᴰ w l → B w → A w) → (r s : Piece) → List·Memᴰ r l → List·Memᴰ s l → A r
       → (B r → ⊥) → A s → (B s → ⊥) → r ≡ s
   only (v ∷ l) k g r s (List·Memᴰ·head e) (List·Memᴰ·head f) ra rb sa sb = e ∙ sym f
@@ -67,11 +74,13 @@ module _ (A B : Piece → Type 0) where
   only (v ∷ l) k g r s (List·Memᴰ·tail m) (List·Memᴰ·tail n) ra rb sa sb =
       only l (linked-tail (λ a b. A b → B a) v l k) (λ w m. g w (List·Memᴰ·tail m)) r s m n ra rb sa sb
 
+-- what may stand in a list is a vertex of the job
 pub named-known : (s : Stars) (k : Side) (v : Piece) → Named s k v → Known s v
 named-known s k (side t) h = tt
 named-known s k (room i) h = h
 
 module _ (s : Stars) (p : Place) (g : Lawful s) (l : Local s p) where
+  -- each neighbour of a room is a vertex of the job
   mem-known : (k : Side) (i : ℕ) (v : Piece) → i < s .count → List·Memᴰ v (s .list k i) → Known s v
   mem-known k i v h m = named-known s k v (g .known k i v h m)
 
@@ -83,6 +92,7 @@ module _ (s : Stars) (p : Place) (g : Lawful s) (l : Local s p) where
       reach (inl e) = omega (arith, e .0)
       reach (inr e) = omega (arith, e .0)
 
+  -- the first of the list on the next side reaches the corner between that side and side k
   starts′ : (k : Side) (i : ℕ) → i < s .count → AtFirst (λ b. p .at k (room i) ≤ p .at k b) (s .list (next k) i)
   starts′ k i h = first-map (s .list (next k) i) (λ b m q. reach q) (last-some (s .list k i) (l .turns k i h) .2)
     where
@@ -90,6 +100,7 @@ module _ (s : Stars) (p : Place) (g : Lawful s) (l : Local s p) where
       reach (inl e) = omega (arith, e .1)
       reach (inr e) = omega (arith, e .1)
 
+  -- the first of a list reaches the corner before it
   starts : (k : Side) (i : ℕ) → i < s .count → AtFirst (λ b. p .at (prev k) (room i) ≤ p .at (prev k) b) (s .list k i)
   starts k i h = rw (round k) at (starts′ (prev k) i h)
 

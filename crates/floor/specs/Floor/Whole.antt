@@ -25,6 +25,7 @@ linked-ordered R t (v ∷ l) k = (λ w m. later v w l k m, linked-ordered R t l 
     later v w (x ∷ l) k (List·Memᴰ·head e) = rw e (k .0)
     later v w (x ∷ l) k (List·Memᴰ·tail m) = t v x w (k .0) (later x w l (k .1) m)
 
+-- where P gives Q between any two of a list, a list in order by P is in order by Q
 pub ordered-map : {P Q : Piece → Piece → Type 0} (l : List Piece) → ((v w : Piece) → List·Memᴰ v l → List·Memᴰ w l → P v w → Q v w) → Ordered P l
     → Ordered Q l
 ordered-map [] f h = tt
@@ -47,6 +48,7 @@ beside-back down t r m = elim m [ ]
 -- frame sides that meet, by their shape alone
 module _ (s : Stars) (p : Place) (sh : Shape p) (inside : (k : Side) (v : Piece) → Known s v → p .at k v ≤ size p k) (thick : (k : Side) (v : Piece)
     → Known s v → size p k < p .at k v + p .at (opp k) v) (gap : p .at up (side down) + p .at down (side up) < p .height) where
+  -- a frame side that is the neighbour of another on its right side meets it there
   pub beside-meets : {t r : Side} → Beside right t r → Meets p right (side t) (side r)
   beside-meets wn = record {
     touch = omega (arith, sh .n-left);
@@ -79,6 +81,7 @@ module _ (s : Stars) (p : Place) (sh : Shape p) (inside : (k : Side) (v : Piece)
   no-touch down right e = omega (arith, sh .e-down, thick up (side down) tt, inside down (side down) tt)
   no-touch down down e = omega (arith, thick up (side down) tt)
 
+  -- a frame side that meets another on its right side is its neighbour there
   beside-right : (t r : Side) → Meets p right (side t) (side r) → Beside right t r
   beside-right left up m = wn
   beside-right left down m = ws
@@ -94,12 +97,14 @@ module _ (s : Stars) (p : Place) (sh : Shape p) (inside : (k : Side) (v : Piece)
   beside-right down up m = absurd (omega (arith, m .touch, sh .n-left, sh .s-right, sh .n-right, thick left (side up) tt))
   beside-right down down m = absurd (omega (arith, m .touch, thick right (side down) tt))
 
+  -- neighbouring frame sides meet on the side where they are neighbours
   pub frame-meets : (k t r : Side) → Beside k t r → Meets p k (side t) (side r)
   frame-meets right t r m = beside-meets m
   frame-meets left t r m = flip right (beside-meets (beside-back right t r m))
   frame-meets up t r m = elim m [ ]
   frame-meets down t r m = elim m [ ]
 
+  -- frame sides that meet on a side are neighbours there
   pub frame-joined : (k t r : Side) → Meets p k (side t) (side r) → Beside k t r
   frame-joined up t r m = absurd (no-touch t r (m .touch))
   frame-joined down t r m = absurd (no-touch r t (omega (arith, m .touch)))
@@ -107,9 +112,11 @@ module _ (s : Stars) (p : Place) (sh : Shape p) (inside : (k : Side) (v : Piece)
   frame-joined left t r m = beside-back left r t (beside-right r t (flip left m))
 
 module _ (s : Stars) (p : Place) (g : Lawful s) (l : Local s p) where
+  -- each neighbour of a room is a vertex of the job
   known : (k : Side) (i : ℕ) (v : Piece) → i < s .count → List·Memᴰ v (s .list k i) → Known s v
   known k i v h m = named-known s k v (g .known k i v h m)
 
+  -- every side of a vertex reaches at least one cell from the opposite edge of the sheet
   pos : (k : Side) (v : Piece) → Known s v → 1 ≤ p .at k v
   pos k v h = omega (arith, l .thick k v h, l .inside (opp k) v h, size-opp p k)
 
@@ -171,9 +178,11 @@ module _ (s : Stars) (p : Place) (g : Lawful s) (l : Local s p) where
           }) here in
           omega (arith, ap (p .at (prev k)) same, na .ahead)
 
+  -- no frame side stands upon another
   upon : (t r : Side) → p .at up (side t) + p .at down (side r) ≡ p .height → ⊥
   upon = no-touch s p (l .shape) (l .inside) (l .thick) (gap s p g l)
 
+  -- no two vertices meet at a corner only
   pub corner : (k : Side) (u v : Piece) → Known s u → Known s v → p .at k u + p .at (opp k) v ≡ size p k
       → p .at (next k) u + p .at (prev k) v ≡ size p (next k) → ⊥
   corner k (room i) v hu hv e f = room-corner k i v hu hv e f
@@ -217,11 +226,13 @@ module _ (s : Stars) (p : Place) (g : Lawful s) (l : Local s p) where
         ind = omega (arith, m .ahead, tv, pos (prev k) v hv);
       }
 
+  -- vertices that meet on a side are in contact there by the job
   pub joined : (k : Side) (u v : Piece) → Known s u → Known s v → Meets p k u v → Contact s k u v
   joined k (room i) v hu hv m = room-joined k i v hu hv m
   joined k (side t) (room j) hu hv m = room-joined (opp k) j (side t) hv hu (flip k m)
   joined k (side t) (side r) hu hv m = frame-joined s p (l .shape) (l .inside) (l .thick) (gap s p g l) k t r m
 
+  -- vertices in contact by the job meet on that side
   pub meets : (k : Side) (u v : Piece) → Known s u → Known s v → Contact s k u v → Meets p k u v
   meets k (room i) v hu hv m = l .meets k i v hu m
   meets k (side t) (room j) hu hv m = rw (round k) at (flip (opp k) (l .meets (opp k) j (side t) hv m))

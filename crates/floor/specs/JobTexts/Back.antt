@@ -36,12 +36,14 @@ inLine b = not (eqb b 10) && not (eqb b 35)
 unfoldable isWord : ℕ → List ℕ → Bool
 isWord n w = not (nothing w) && all letter w && all inLine w && leb (length w) n
 
+-- what the test of a word says: letters, not none and n at most, no end of a line and no comment among them
 record Word (n : ℕ) (w : List ℕ) : Type 0 where
   filled : nothing w ≡ false
   letters : all letter w ≡ true
   fits : all inLine w ≡ true
   short : length w ≤ n
 
+-- what passes the test is a word
 is-word : (n : ℕ) (w : List ℕ) → isWord n w ≡ true → Word n w
 unfolding isWord
 is-word n w e =
@@ -54,14 +56,17 @@ is-word n w e =
 abbrev tells : ℕ → (ℕ → List ℕ) → (List ℕ → Option ℕ) → ℕ → Bool
 tells n f g k = isWord n (f k) && says k (g (f k))
 
+-- the number is written as a word of at most n letters, and read back
 abbrev Told : ℕ → (ℕ → List ℕ) → (List ℕ → Option ℕ) → ℕ → Type 0
 Told n f g k = Word n (f k) × (g (f k) ≡ some k)
 
+-- where just this number is found to be said, it is the one said
 said : (k : ℕ) (x : Option ℕ) → says k x ≡ true → x ≡ some k
 unfolding says
 said k none e = no-false e
 said k (some n) e = ap some (eqb-true n k e)
 
+-- where the test passes for the first m numbers, each of them is written as a word and read back
 told : (n : ℕ) (f : ℕ → List ℕ) (g : List ℕ → Option ℕ) (m : ℕ) → all (tells n f g) (upFrom 0 m) ≡ true → (k : ℕ) → k < m → Told n f g k
 told n f g m h k l =
     let (a, b) = and-parts _ _ (all-mem (tells n f g) (upFrom 0 m) h k (upFrom-mem 0 m k (omega arith) (omega arith))) in
@@ -72,20 +77,25 @@ sides : all (tells 5 sideWord kindOfWord) (upFrom 0 4) ≡ true
 unfolding all upFrom isWord inLine nothing letter sideWord sideWords kindOfWord placeOf sameNumbers plain says
 sides = refl
 
+-- every number up to 255 is written as a vertex of at most three letters, and read back
 vertices : all (tells 3 vertexWord vertexOfWord) (upFrom 0 256) ≡ true
 unfolding all upFrom isWord inLine nothing letter vertexWord frameWords vertexOfWord placeOf sameNumbers plain decimal digits numberOf digitsOn digit aByte orElse says
 vertices = refl
 
+-- every number below 64 is written in at most two digits, and read back
 numbers : all (tells 2 decimal numberOf) (upFrom 0 64) ≡ true
 unfolding all upFrom isWord inLine nothing letter decimal digits numberOf digitsOn digit says
 numbers = refl
 
+-- each kind is written as a word of at most five letters, and read back
 side-told : (k : ℕ) → k < 4 → Told 5 sideWord kindOfWord k
 side-told = told 5 sideWord kindOfWord 4 sides
 
+-- each vertex up to 255 is written as a word of at most three letters, and read back
 vertex-told : (v : ℕ) → v < 256 → Told 3 vertexWord vertexOfWord v
 vertex-told = told 3 vertexWord vertexOfWord 256 vertices
 
+-- each number below 64 is written as a word of at most two digits, and read back
 room-told : (r : ℕ) → r < 64 → Told 2 decimal numberOf r
 room-told = told 2 decimal numberOf 64 numbers
 
@@ -103,12 +113,14 @@ word-read [] [] a s = refl
 word-read [] (b ∷ t) a s = rw (not-true (letter b) s)
 word-read (b ∷ w) t a s = let (l, m) = and-parts (letter b) (all letter w) a in rw (l, word-read w t m s)
 
+-- what follows a word is left, where no letter stands in front of it
 word-left : (w t : List ℕ) → all letter w ≡ true → stops t ≡ true → behindWord (w ++ t) ≡ t
 unfolding behindWord stops all
 word-left [] [] a s = refl
 word-left [] (b ∷ t) a s = rw (not-true (letter b) s)
 word-left (b ∷ w) t a s = let (l, m) = and-parts (letter b) (all letter w) a in rw l (word-left w t m s)
 
+-- the next thing behind a word is what follows it, without the blanks in front
 next-behind : (w t : List ℕ) → all letter w ≡ true → stops t ≡ true → next (w ++ t) ≡ skip t
 unfolding next
 next-behind w t a s = rw (word-left w t a s)
@@ -128,10 +140,12 @@ unfolding skip nothing all
 skip-word n [] t k = no-false (sym (k .filled))
 skip-word n (b ∷ w) t k = rw (letter-blank b (and-left (letter b) (all letter w) (k .letters)))
 
+-- a space skipped in front of a word leaves the word
 skip-space : (n : ℕ) (w t : List ℕ) → Word n w → skip (32 ∷ (w ++ t)) ≡ w ++ t
 unfolding skip blank
 skip-space n w t k = skip-word n w t k
 
+-- a text that begins with a space has no letter in front
 space-stops : (t : List ℕ) → stops (32 ∷ t) ≡ true
 unfolding stops letter
 space-stops t = refl
@@ -141,6 +155,7 @@ mark-stands : (b : ℕ) (t : List ℕ) → letter b ≡ false → blank b ≡ fa
 unfolding stops skip
 mark-stands b t l m = (rw l, rw m)
 
+-- where something stands in front, something stands there
 some-append : (w t : List ℕ) → nothing w ≡ false → nothing (w ++ t) ≡ false
 unfolding nothing
 some-append [] t e = no-false (sym e)
@@ -184,16 +199,19 @@ unfoldable moreText : Star → List ℕ
 moreText [] = []
 moreText (e ∷ s) = 44 ∷ contactsText (e ∷ s)
 
+-- the contacts of a room are the first, and what follows it
 contacts-front : (e : Entry) (s : Star) → contactsText (e ∷ s) ≡ contactText e ++ moreText s
 unfolding contactsText moreText plain
 contacts-front e [] = sym (append-nil (contactText e))
 contacts-front e (f ∷ s) = refl
 
+-- what follows a contact has neither a letter nor a blank in front
 more-stands : (s : Star) → (stops (moreText s) ≡ true) × (skip (moreText s) ≡ moreText s)
 unfolding moreText stops skip letter blank
 more-stands [] = (refl, refl)
 more-stands (e ∷ s) = mark-stands 44 (contactsText (e ∷ s)) refl refl
 
+-- what follows a contact is read back as the other contacts, where so many are left
 more-read : (left : ℕ) (s : Star) → length s ≤ left → Writable s → followed (moreText s) (contacts left (skip (drop 1 (moreText s)))) ≡ star s
 unfolding moreText followed behindContact
 more-read left [] l w = refl
@@ -202,12 +220,14 @@ more-read (suc left) (e ∷ s) l (h, m, w) =
     let (a, b) = more-stands s in
     rw (contacts-front e s) (contact-read left e (moreText s) h m a b ∙ ap (behindContact e) (more-read left s (omega arith) w))
 
+-- a room with a contact has something behind the blanks of its contacts
 some-contacts : (e : Entry) (s : Star) → e .kind < 4 → nothing (skip (contactsText (e ∷ s))) ≡ false
 some-contacts e s h =
     let (p, k) = side-told (e .kind) h in
     let t : List ℕ = 32 ∷ (vertexWord (e .to) ++ moreText s) in
     rw (contacts-front e s, contact-front e (moreText s), skip-space 5 (sideWord (e .kind)) t p) (some-append (sideWord (e .kind)) t (p .filled))
 
+-- where something stands behind the colon, the contacts are read
 any-some : (left : ℕ) (t : List ℕ) → nothing t ≡ false → anyContacts left t ≡ contacts left t
 unfolding nothing anyContacts
 any-some left [] e = no-false (sym e)
@@ -225,6 +245,7 @@ contacts-read left (e ∷ s) l (h, m, w) = any-some left (skip (contactsText (e 
 abbrev lineOf : ℕ → Star → List ℕ
 lineOf r s = decimal r ++ (58 ∷ contactsText s)
 
+-- a room's line in front of some text is the line, its end, and the text
 room-front : (r : ℕ) (s : Star) (t : List ℕ) → roomText r s ++ t ≡ lineOf r s ++ (10 ∷ t)
 unfolding roomText plain
 room-front r s t =
@@ -254,22 +275,26 @@ unfolding all
 all-append p [] b x y = y
 all-append p (c ∷ a) b x y = let (l, m) = and-parts (p c) (all p a) x in and-both (p c) (all p (a ++ b)) l (all-append p a b m y)
 
+-- a contact in front of a text with no end of a line and no comment has none either
 contact-fits : (e : Entry) (t : List ℕ) → e .kind < 4 → e .to < 256 → all inLine t ≡ true → all inLine (contactText e ++ t) ≡ true
 unfolding all inLine
 contact-fits e t h l f =
     let v : all inLine (vertexWord (e .to) ++ t) ≡ true = all-append inLine (vertexWord (e .to)) t (vertex-told (e .to) l .0 .fits) f in
     rw (contact-front e t) (all-append inLine (sideWord (e .kind)) (32 ∷ (vertexWord (e .to) ++ t)) (side-told (e .kind) h .0 .fits) v)
 
+-- what follows a contact has no end of a line and no comment
 more-fits : (s : Star) → Writable s → all inLine (moreText s) ≡ true
 unfolding moreText all inLine
 more-fits [] w = refl
 more-fits (e ∷ s) (h, m, w) = rw (contacts-front e s) (contact-fits e (moreText s) h m (more-fits s w))
 
+-- the contacts of a room have no end of a line and no comment
 contacts-fit : (s : Star) → Writable s → all inLine (contactsText s) ≡ true
 unfolding contactsText moreText all inLine
 contacts-fit [] w = refl
 contacts-fit (e ∷ s) w = more-fits (e ∷ s) w
 
+-- a room's line, without its end, has no end of a line and no comment
 line-fits : (r : ℕ) (s : Star) → r < 64 → Writable s → all inLine (lineOf r s) ≡ true
 unfolding all inLine
 line-fits r s h w = all-append inLine (decimal r) (58 ∷ contactsText s) (room-told r h .0 .fits) (contacts-fit s w)
@@ -294,6 +319,7 @@ no-comment (b ∷ l) a =
     let e : eqb b 35 ≡ false = not-true (eqb b 35) (and-right (not (eqb b 10)) (not (eqb b 35)) x) in
     rw (e, no-comment l m)
 
+-- the line of room r in front of others is read as its star, and then the others, with room r + 1 next and so many fewer contacts left
 line-read : (i r left : ℕ) (s : Star) (ls : List (List ℕ)) → 4 ≤ r → r < 64 → length s ≤ left → Writable s
     → readLines i r left (lineOf r s ∷ ls) ≡ behindStar s (readLines (suc i) (suc r) (left - length s) ls)
 unfolding readLines taken
@@ -306,6 +332,7 @@ line-read i r left s ls l h m w =
       room-read left r s l h m w,
     )
 
+-- every star of the job has sides as its kinds and bytes as its neighbours
 abbrev AllWritable : Job → Type 0
 AllWritable [] = Unit {0}
 AllWritable (s ∷ j) = Writable s × AllWritable j
@@ -322,6 +349,7 @@ lines-read i r left (s ∷ j) l h m n (w, v) =
 
 -- ---- the whole text
 
+-- a star whose kinds are below 4 and whose neighbours are below 256 by the tests can be written
 star-writable : (s : Star) → all (λ e. ltb (e .kind) 4) s ≡ true → all (λ e. ltb (e .to) 256) s ≡ true → Writable s
 unfolding all
 star-writable [] p q = tt
@@ -330,6 +358,7 @@ star-writable (e ∷ s) p q =
     let (l, m) = and-parts (ltb (e .to) 256) _ q in
     (ltb-true (e .kind) 4 h, ltb-true (e .to) 256 l, star-writable s k m)
 
+-- a job that passes the tests of its kinds and neighbours has only stars that can be written
 job-writable : (j : Job) → sided j ≡ true → bytesOnly j ≡ true → AllWritable j
 unfolding sided bytesOnly all
 job-writable [] p q = tt
@@ -352,6 +381,7 @@ text-back j t2 t3 s b = let (l, m, n) = limits j t2 t3 in lines-read 0 4 360 j (
 
 -- ---- how long a text is
 
+-- a contact has at most ten bytes
 contact-length : (e : Entry) (t : List ℕ) → e .kind < 4 → e .to < 256 → length (contactText e ++ t) ≤ 10 + length t
 contact-length e t h l =
     rw (contact-front e t)
@@ -363,16 +393,19 @@ contact-length e t h l =
       vertex-told (e .to) l .0 .short,
     ))
 
+-- what follows a contact has at most eleven bytes for each of the others
 more-length : (s : Star) → Writable s → length (moreText s) ≤ 11 * length s
 unfolding moreText
 more-length [] w = omega arith
 more-length (e ∷ s) (h, m, w) = rw (contacts-front e s) (omega (arith, contact-length e (moreText s) h m, more-length s w))
 
+-- the contacts of a room have at most eleven bytes each
 contacts-length : (s : Star) → Writable s → length (contactsText s) ≤ 11 * length s
 unfolding contactsText moreText
 contacts-length [] w = omega arith
 contacts-length (e ∷ s) w = omega (arith, more-length (e ∷ s) w)
 
+-- a room's line has at most four bytes and eleven for each contact
 room-length : (r : ℕ) (s : Star) (t : List ℕ) → r < 64 → Writable s → length (roomText r s ++ t) ≤ 4 + 11 * length s + length t
 room-length r s t h w =
     rw (room-front r s t)
@@ -384,6 +417,7 @@ room-length r s t h w =
       contacts-length s w,
     ))
 
+-- the lines of some rooms have at most four bytes for each room and eleven for each contact
 rooms-length : (r : ℕ) (j : Job) → r + length j ≤ 64 → AllWritable j → length (roomsText r j) ≤ 4 * length j + 11 * pairsIn j
 unfolding roomsText pairsIn sum
 rooms-length r [] m w = omega arith
@@ -402,6 +436,7 @@ unfolding starBytes all
 star-small [] t b = refl
 star-small (e ∷ s) t b = and-both (ltb (e .to) 256) _ (lt-ltb (e .to) 256 (b .0)) (star-small s t (b .1 .1))
 
+-- stars that are written as bytes have no neighbour over 255
 stars-small : (j : Job) → Bytes (writeStars j) → bytesOnly j ≡ true
 unfolding writeStars writeField bytesOnly all
 stars-small [] b = refl
@@ -409,6 +444,7 @@ stars-small (s ∷ j) b =
     let c : Bytes (starBytes s ++ writeStars j) = b .1 .1 .1 in
     and-both (all (λ e. ltb (e .to) 256) s) _ (star-small s (writeStars j) c) (stars-small j (bytes-behind (starBytes s) (writeStars j) c))
 
+-- nor has a job that is written as bytes
 job-small : (j : Job) → Bytes (writeJob j) → bytesOnly j ≡ true
 unfolding writeJob
 job-small j b = stars-small j (bytes-behind (writeField 1 (length j ∷ [])) (writeStars j) b)

@@ -12,7 +12,7 @@ use borrow.Author.Tests.{leb-true, eqb-true, eqb-false, le-leb, lt-leb, eq-eqb, 
 use Rattle.floor.specs.Lists.{all}
 use Rattle.floor.specs.Lists.Laws.{and-parts, and-both, or-cases, or-left, or-right, any-mem, mem-any, all-mem, mem-all, mem-getD, getD-mem, upFrom-mem}
 use Rattle.floor.specs.Lists.Laws.{mem-upFrom, implies, implied}
-use Rattle.floor.specs.Jobs.{Reading, fails, reads, passing, firstSix, test3, Entry, Star, Job, Room, Vertex, opposite, frameKind, rooms, isVertex}
+use Rattle.floor.specs.Jobs.{Reading, fails, reads, passing, firstSix, Labelling, SixPassed, test3, Entry, Star, Job, Room, Vertex, opposite, frameKind, rooms, isVertex}
 use Rattle.floor.specs.Jobs.{isRoom, starOf, lists, entryOk, test4, starOk, test5, test6}
 use Rattle.floor.specs.Jobs.Stars.{entry, GoodStar, good-of, of-good, mem-most}
 
@@ -21,18 +21,22 @@ pub is-room : (j : Job) (v : ℕ) → isRoom j v ≡ true → Room j v
 unfolding isRoom isVertex
 is-room j v e = let (a, b) = and-parts _ _ e in (leb-true 4 v a, omega (arith, leb-true v (length j + 3) b))
 
+-- a vertex passes the test whether it is one
 pub vertex-is : (j : Job) (v : ℕ) → Vertex j v → isVertex j v ≡ true
 unfolding isVertex
 vertex-is j v h = le-leb v (length j + 3) (omega arith)
 
+-- a room passes the test whether it is one
 pub room-is : (j : Job) (v : ℕ) → Room j v → isRoom j v ≡ true
 unfolding isRoom
 room-is j v r = and-both _ _ (le-leb 4 v (r .0)) (vertex-is j v (r .1))
 
+-- a room is among the numbers of the job's rooms
 room-mem : (j : Job) (u : ℕ) → Room j u → List·Memᴰ u (rooms j)
 unfolding rooms
 room-mem j u r = upFrom-mem 4 (length j) u (r .0) (omega (arith, r .1))
 
+-- each of the numbers of a job's rooms is a room
 mem-room : (j : Job) (u : ℕ) → List·Memᴰ u (rooms j) → Room j u
 unfolding rooms
 mem-room j u m = let h : (4 ≤ u) × (u < 4 + length j) = mem-upFrom 4 (length j) u m in (h .0, omega (arith, h .1))
@@ -42,6 +46,7 @@ pub star-room : (j : Job) (v : ℕ) → 4 ≤ v → starOf j v ≡ getD j (v - 4
 unfolding starOf
 star-room j v h = rw (le-leb 4 v h)
 
+-- a frame side has an empty star
 pub star-frame : (j : Job) (v : ℕ) → v < 4 → starOf j v ≡ []
 unfolding starOf
 star-frame j v h = rw (lt-leb 4 v h)
@@ -60,6 +65,7 @@ lists-mem s v k h =
     let b : e .kind ≡ k = eqb-true (e .kind) k y in
     Memᴰ·cast (λ i. record { to = sym a i; kind = sym b i }) m
 
+-- an entry of a star is found by the test whether the star lists it
 pub mem-lists : (s : Star) (v k : ℕ) → List·Memᴰ (entry v k) s → lists s v k ≡ true
 unfolding lists
 mem-lists s v k m = mem-any (λ e. eqb (e .to) v && eqb (e .kind) k) s (entry v k) m (and-both (eqb v v) (eqb k k) (eq-eqb v v refl) (eq-eqb k k refl))
@@ -86,6 +92,7 @@ frame-kind (suc (suc zero)) h = refl
 frame-kind (suc (suc (suc zero))) h = refl
 frame-kind (suc (suc (suc (suc v)))) h = absurd (omega arith)
 
+-- an entry that passes test 4 has its neighbour a vertex other than the room, its kind at most 3, and a frame side's own kind
 entry-facts : (n u : ℕ) (e : Entry) → entryOk n u e ≡ true → EntryOk n u e
 unfolding entryOk
 entry-facts n u e h =
@@ -104,6 +111,7 @@ entry-facts n u e h =
     go l (inl q) = absurd (omega (arith, leb-true 4 (e .to) q))
     go l (inr q) = eqb-true (e .kind) (frameKind (e .to)) q ∙ frame-kind (e .to) l
 
+-- an entry of which these facts hold passes test 4
 facts-entry : (n u : ℕ) (e : Entry) → EntryOk n u e → entryOk n u e ≡ true
 unfolding entryOk
 facts-entry n u e k =
@@ -119,6 +127,7 @@ facts-entry n u e k =
 abbrev backed : Job → ℕ → Entry → Bool
 backed j u e = not (leb 4 (e .to)) || lists (starOf j (e .to)) u (opposite (e .kind))
 
+-- a job that passes tests 4, 5 and 6 has the facts that they tell of its entries and stars
 pub passes-of : (j : Job) → test4 j ≡ true → test5 j ≡ true → test6 j ≡ true → Passes j
 unfolding test4 test5 test6
 passes-of j t4 t5 t6 = record {
@@ -137,6 +146,11 @@ passes-of j t4 t5 t6 = record {
         entry-facts (length j) u e
         (all-mem (entryOk (length j) u) (starOf j u) (all-mem (λ u. all (entryOk (length j) u) (starOf j u)) (rooms j) t4 u (room-mem j u r)) e m)
 
+-- the tests, as they are told of a labelling
+pub labelling-passes : (j : Job) → Labelling j → Passes j
+labelling-passes j l = passes-of j (l .pass4) (l .pass5) (l .pass6)
+
+-- a job of which these facts hold passes tests 4, 5 and 6
 pub of-passes : (j : Job) → Passes j → (test4 j ≡ true) × (test5 j ≡ true) × (test6 j ≡ true)
 unfolding test4 test5 test6
 of-passes j k = (
@@ -153,23 +167,22 @@ of-passes j k = (
     star-ok : (s : Star) → (i : ℕ) × (i < length j) × (getD j i [] ≡ s) → starOk s ≡ true
     star-ok s (i, l, e) = of-good s (rw (star-at j i, e) at (k .good (4 + i) (omega arith, omega arith)))
 
+-- a labelling, by its facts
+pub passes-labelling : (j : Job) → Passes j → Labelling j
+passes-labelling j k = let (a, b, c) = of-passes j k in record { pass4 = a; pass5 = b; pass6 = c }
+
 -- TESTS 3 TO 6 PASSED, one after the other
 pub passing-true : (b : Bool) (k : ℕ) (r : Reading) → b ≡ true → passing b k r ≡ r
 unfolding passing
 passing-true b k r e = rw e
 
+-- where a job comes out behind a test, the test was passed, and what follows the test gave that job
 pub passing-reads : (b : Bool) (k : ℕ) (r : Reading) (j : Job) → passing b k r ≡ reads j → (b ≡ true) × (r ≡ reads j)
 unfolding passing
 passing-reads true k r j e = (refl, e)
 passing-reads false k r j e = let z : _≡_ {A = ℕ} 0 1 = cc in absurd (omega arith)
 
-pub record SixPassed (r : Reading) (j : Job) : Type 0 where
-  pub reading : r ≡ reads j
-  pub pass3 : test3 j ≡ true
-  pub pass4 : test4 j ≡ true
-  pub pass5 : test5 j ≡ true
-  pub pass6 : test6 j ≡ true
-
+-- a job that comes out of tests 3 to 6 was read, and passed each of them
 pub six-passed : (r : Reading) (j : Job) → firstSix r ≡ reads j → SixPassed r j
 unfolding firstSix
 six-passed (fails k) j e = let z : _≡_ {A = ℕ} 0 1 = cc in absurd (omega arith)
@@ -189,6 +202,7 @@ six-passed (reads i) j e =
       pass6 = rw x at t6;
     })
 
+-- a job that was read, and that passes each of tests 3 to 6, comes out of them
 pub passed-six : (r : Reading) (j : Job) → SixPassed r j → firstSix r ≡ reads j
 unfolding firstSix passing
 passed-six r j s = rw (s .reading, s .pass3, s .pass4, s .pass5, s .pass6)

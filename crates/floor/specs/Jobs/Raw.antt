@@ -23,6 +23,7 @@ pub record Stretch (part bs : List ℕ) : Type 0 where
 value-stretch : {bs : List ℕ} {t : ℕ} {v rest : List ℕ} → Whole bs t v rest → Stretch v bs
 value-stretch {bs} {t} {v} {rest} w = record { front = t ∷ w .h ∷ w .l ∷ []; back = rest; whole = w .is }
 
+-- a stretch of what follows the first field is a stretch of the bytes
 rest-stretch : {bs : List ℕ} {t : ℕ} {v rest part : List ℕ} → Whole bs t v rest → Stretch part rest → Stretch part bs
 rest-stretch {bs} {t} {v} {rest} {part} w s = record {
   front = t ∷ w .h ∷ w .l ∷ (v ++ s .front);
@@ -73,6 +74,7 @@ pub raw-fails : (bs : List ℕ) (k v : ℕ) → readJob bs ≡ fails k → rawSt
 unfolding rawStar rawFrom
 raw-fails bs k v e = rw e
 
+-- empty where the number is no room of the job
 pub raw-no-room : (bs : List ℕ) (j : Job) (v : ℕ) → readJob bs ≡ reads j → (Room j v → ⊥) → rawStar bs v ≡ []
 unfolding rawStar rawFrom
 raw-no-room bs j v e h = go (isRoom j v) refl

@@ -19,6 +19,7 @@ use Rattle.floor.specs.Jobs.{starBytes, writeStars, writeJob}
 no-none : {X : Type 0} (j : Job) → none ≡ some j → X
 no-none j e = let z : _≡_ {A = ℕ} 0 1 = cc in absurd (omega arith)
 
+-- a reading that fails is no job
 no-fails : {X : Type 0} (k : ℕ) (j : Job) → fails k ≡ reads j → X
 no-fails k j e = let z : _≡_ {A = ℕ} 0 1 = cc in absurd (omega arith)
 
@@ -28,12 +29,14 @@ unfolding entries starBytes
 entries-bytes [] = refl
 entries-bytes (e ∷ s) = ap (λ (r : Star). e ∷ r) (entries-bytes s)
 
+-- an even number of bytes, read as a star and written again, is the same bytes
 pub bytes-entries : (v : List ℕ) → length v % 2 ≡ 0 → starBytes (entries v) ≡ v
 unfolding entries starBytes
 bytes-entries [] e = refl
 bytes-entries (a ∷ []) e = absurd (omega arith)
 bytes-entries (a ∷ k ∷ v) e = ap (λ (r : List ℕ). a ∷ k ∷ r) (bytes-entries v (omega arith))
 
+-- a star is written as two bytes for each of its entries
 pub length-starBytes : (s : Star) → length (starBytes s) ≡ 2 * length s
 unfolding starBytes
 length-starBytes [] = refl
@@ -47,6 +50,7 @@ read-write-stars (s ∷ j) =
     let even : eqb (length (starBytes s) % 2) 0 ≡ true = eq-eqb (length (starBytes s) % 2) 0 (omega (arith, length-starBytes s)) in
     rw (read-write-field 2 (starBytes s) (writeStars j), read-write-stars j, even, entries-bytes)
 
+-- a job whose number of rooms passes test 2, written and read back, is the same job
 pub read-write-job : (j : Job) → test2 (length j) ≡ true → readJob (writeJob j) ≡ reads j
 unfolding readJob writeJob readFirst readRooms readRest
 read-write-job j t = rw (read-write-field 1 (length j ∷ []) (writeStars j), t, read-write-stars j)
@@ -61,6 +65,7 @@ pub record Split (f : Field) (js : Option Job) (j : Job) : Type 0 where
   pub is-more : js ≡ some more
   pub is-job : j ≡ entries value ∷ more
 
+-- stars read from a field and from what follows it come from a field of tag 2 and even length, and from the stars behind it
 pub split : (f : Field) (js : Option Job) (j : Job) → starThen f js ≡ some j → Split f js j
 unfolding starThen
 split broken js j e = no-none j e
@@ -87,6 +92,7 @@ pub record Counted (f : Field) (j : Job) : Type 0 where
   pub passes : test2 count ≡ true
   pub is-stars : readStars count rest ≡ some j
 
+-- a job read comes from a first field of tag 1 that holds a number of rooms that passes test 2, and from as many stars behind it
 pub counted : (f : Field) (j : Job) → readFirst f ≡ reads j → Counted f j
 unfolding readFirst readRooms readRest
 counted broken j e = no-fails 1 j e
@@ -141,6 +147,7 @@ write-read-stars (suc n) bs j ok e =
     rw (k .is-job, bytes-entries (k .value) (k .even), write-read-stars n (k .rest) (k .more) (bytes-rest bs 2 (k .value) (k .rest) ok (k .is-field)) m)
     (write-read-field bs 2 (k .value) (k .rest) ok (k .is-field))
 
+-- bytes that are read as a job are what that job is written as
 pub write-read-job : (bs : List ℕ) (j : Job) → Bytes bs → readJob bs ≡ reads j → writeJob j ≡ bs
 unfolding readJob writeJob
 write-read-job bs j ok e =
@@ -159,6 +166,7 @@ length-stars [] = refl
 length-stars (s ∷ j) =
     omega (arith, length-append (writeField 2 (starBytes s)) (writeStars j), length-field 2 (starBytes s), length-starBytes s, length-stars j)
 
+-- a written job has four bytes for its first field, three for each star and two for each pair
 pub length-writeJob : (j : Job) → length (writeJob j) ≡ 4 + 3 * length j + 2 * pairsIn j
 unfolding writeJob
 length-writeJob j = omega (arith, length-append (writeField 1 (length j ∷ [])) (writeStars j), length-field 1 (length j ∷ []), length-stars j)
@@ -171,6 +179,7 @@ bytes-star (e ∷ s) h =
     let x : (e .to < 256) × (e .kind < 256) = h e (List·Memᴰ·head refl) in
     (x .0, (x .1, bytes-star s (λ d m. h d (List·Memᴰ·tail m))))
 
+-- the stars of a job are written as bytes, where each neighbour and kind is a byte and each star fits a field
 bytes-stars : (j : Job) → ((s : Star) → List·Memᴰ s j → (length s < 32768) × ((e : Entry) → List·Memᴰ e s → (e .to < 256) × (e .kind < 256)))
     → Bytes (writeStars j)
 unfolding writeStars
@@ -180,6 +189,7 @@ bytes-stars (s ∷ j) h =
     bytes-append (writeField 2 (starBytes s)) (writeStars j)
     (bytes-field 2 (starBytes s) (omega arith) (omega (arith, length-starBytes s)) (bytes-star s small)) (bytes-stars j (λ r m. h r (List·Memᴰ·tail m)))
 
+-- so is a job, where besides its number of rooms is a byte
 pub bytes-job : (j : Job) → length j < 256
     → ((s : Star) → List·Memᴰ s j → (length s < 32768) × ((e : Entry) → List·Memᴰ e s → (e .to < 256) × (e .kind < 256))) → Bytes (writeJob j)
 unfolding writeJob

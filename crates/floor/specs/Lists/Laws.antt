@@ -20,13 +20,16 @@ pub and-left : (a b : Bool) → (a && b) ≡ true → a ≡ true
 and-left true b e = refl
 and-left false b e = e
 
+-- where both are true, the second is
 pub and-right : (a b : Bool) → (a && b) ≡ true → b ≡ true
 and-right true b e = e
 and-right false b e = no-false e
 
+-- where both are true, each is
 pub and-parts : (a b : Bool) → (a && b) ≡ true → (a ≡ true) × (b ≡ true)
 and-parts a b e = (and-left a b e, and-right a b e)
 
+-- where each is true, both are
 pub and-both : (a b : Bool) → a ≡ true → b ≡ true → (a && b) ≡ true
 and-both a b p q = rw (p, q)
 
@@ -35,9 +38,11 @@ pub or-cases : (a b : Bool) → (a || b) ≡ true → (a ≡ true) ⊎ (b ≡ tr
 or-cases true b e = inl refl
 or-cases false b e = inr e
 
+-- one of two is true where the first is
 pub or-left : (a b : Bool) → a ≡ true → (a || b) ≡ true
 or-left a b p = rw p
 
+-- one of two is true where the second is
 pub or-right : (a b : Bool) → b ≡ true → (a || b) ≡ true
 or-right true b p = refl
 or-right false b p = p
@@ -47,14 +52,17 @@ pub not-of : (a : Bool) → (a ≡ true → ⊥) → not a ≡ true
 not-of true h = absurd (h refl)
 not-of false h = refl
 
+-- a test and its negation are not both true
 pub not-and : (a : Bool) → not a ≡ true → a ≡ true → ⊥
 not-and true e f = no-false e
 not-and false e f = no-false f
 
+-- where the second is true whenever the first is, the first is false or the second true
 pub implies : (a b : Bool) → (a ≡ true → b ≡ true) → (not a || b) ≡ true
 implies true b h = h refl
 implies false b h = refl
 
+-- where the first is false or the second true, the second is true whenever the first is
 pub implied : (a b : Bool) → (not a || b) ≡ true → a ≡ true → b ≡ true
 implied true b e f = e
 implied false b e f = no-false f
@@ -75,10 +83,12 @@ module _ {A : Type 0} where
   abbrev pub count : (A → Bool) → List A → ℕ
   count p xs = length (keep p xs)
 
+  -- none passes of an empty list
   pub count-nil : (p : A → Bool) → count p [] ≡ 0
   unfolding keep
   count-nil p = refl
 
+  -- the first member counts if it passes, and then those behind it
   pub count-cons : (p : A → Bool) (x : A) (xs : List A) → count p (x ∷ xs) ≡ bit (p x) + count p xs
   unfolding keep
   count-cons p x xs = go (p x)
@@ -87,16 +97,19 @@ module _ {A : Type 0} where
       go true = omega arith
       go false = omega arith
 
+  -- in two lists one behind the other as many pass as in the two together
   pub count-append : (p : A → Bool) (xs ys : List A) → count p (xs ++ ys) ≡ count p xs + count p ys
   count-append p [] ys = omega (arith, count-nil p)
   count-append p (x ∷ xs) ys = omega (arith, count-cons p x (xs ++ ys), count-cons p x xs, count-append p xs ys)
 
+  -- where some member passes, at least one is counted
   pub mem-count : (p : A → Bool) (xs : List A) (x : A) → List·Memᴰ x xs → p x ≡ true → 1 ≤ count p xs
   mem-count p (y ∷ xs) x (List·Memᴰ·head q) e =
       let c : count p (y ∷ xs) ≡ 1 + count p xs = rw (ap p (sym q) ∙ e) at (count-cons p y xs) in
       omega arith
   mem-count p (y ∷ xs) x (List·Memᴰ·tail m) e = omega (arith, count-cons p y xs, mem-count p xs x m e)
 
+  -- where at least one is counted, there is a member that passes
   pub count-some : (p : A → Bool) (xs : List A) → 1 ≤ count p xs → (x : A) × (List·Memᴰ x xs) × (p x ≡ true)
   count-some p [] h = absurd (omega (arith, count-nil p))
   count-some p (y ∷ xs) h = go (p y) refl (count-some p xs)
@@ -108,6 +121,7 @@ module _ {A : Type 0} where
           let (x, m, q) = below (omega arith) in
           (x, List·Memᴰ·tail m, q)
 
+  -- where none is counted, no member passes
   pub count-none : (p : A → Bool) (xs : List A) (x : A) → List·Memᴰ x xs → count p xs ≡ 0 → p x ≡ false
   count-none p xs x m h = go (p x) refl
     where
@@ -115,12 +129,14 @@ module _ {A : Type 0} where
       go true e = absurd (omega (arith, mem-count p xs x m e))
       go false e = e
 
+  -- where no member passes, none is counted
   pub none-count : (p : A → Bool) (xs : List A) → ((x : A) → List·Memᴰ x xs → p x ≡ false) → count p xs ≡ 0
   none-count p [] h = count-nil p
   none-count p (x ∷ xs) h =
       let c : count p (x ∷ xs) ≡ 0 + count p xs = rw (h x (List·Memᴰ·head refl)) at (count-cons p x xs) in
       omega (arith, none-count p xs (λ y m. h y (List·Memᴰ·tail m)))
 
+  -- some member passes exactly if at least one is counted
   pub any-count : (p : A → Bool) (xs : List A) → any p xs ≡ leb 1 (count p xs)
   unfolding any
   any-count p [] = rw (count-nil p)
@@ -135,17 +151,21 @@ module _ {A : Type 0} where
           let d : count p (x ∷ xs) ≡ count p xs = omega arith in
           rw (e, d) below
 
+  -- where some member passes, here is one
   pub any-mem : (p : A → Bool) (xs : List A) → any p xs ≡ true → (x : A) × (List·Memᴰ x xs) × (p x ≡ true)
   any-mem p xs e = count-some p xs (leb-true 1 (count p xs) (sym (any-count p xs) ∙ e))
 
+  -- a member that passes is enough for some to pass
   pub mem-any : (p : A → Bool) (xs : List A) (x : A) → List·Memᴰ x xs → p x ≡ true → any p xs ≡ true
   mem-any p xs x m e = any-count p xs ∙ le-leb 1 (count p xs) (mem-count p xs x m e)
 
+  -- where all pass, each member does
   pub all-mem : (p : A → Bool) (xs : List A) → all p xs ≡ true → (x : A) → List·Memᴰ x xs → p x ≡ true
   unfolding all
   all-mem p (y ∷ xs) e x (List·Memᴰ·head q) = rw q (and-left (p y) (all p xs) e)
   all-mem p (y ∷ xs) e x (List·Memᴰ·tail m) = all-mem p xs (and-right (p y) (all p xs) e) x m
 
+  -- where each member passes, all do
   pub mem-all : (p : A → Bool) (xs : List A) → ((x : A) → List·Memᴰ x xs → p x ≡ true) → all p xs ≡ true
   unfolding all
   mem-all p [] h = refl
@@ -157,15 +177,18 @@ module _ {A : Type 0} where
   mem-getD (x ∷ xs) zero d h = List·Memᴰ·head refl
   mem-getD (x ∷ xs) (suc i) d h = List·Memᴰ·tail (mem-getD xs i d (omega arith))
 
+  -- a member stands at some place of the list
   pub getD-mem : (xs : List A) (x d : A) → List·Memᴰ x xs → (i : ℕ) × (i < length xs) × (getD xs i d ≡ x)
   getD-mem (y ∷ xs) x d (List·Memᴰ·head q) = (0, omega arith, sym q)
   getD-mem (y ∷ xs) x d (List·Memᴰ·tail m) = let (i, l, e) = getD-mem xs x d m in (suc i, omega arith, e)
 
+  -- where the member at each place passes, all do
   pub all-at : (p : A → Bool) (xs : List A) (d : A) → ((i : ℕ) → i < length xs → p (getD xs i d) ≡ true) → all p xs ≡ true
   unfolding all
   all-at p [] d h = refl
   all-at p (x ∷ xs) d h = rw (h 0 (omega arith)) (all-at p xs d (λ i k. h (suc i) (omega arith)))
 
+  -- where the members at any two places stand in r, every member stands in r to every later one
   pub at-pairwise : (r : A → A → Bool) (xs : List A) (d : A) → ((i k : ℕ) → i < k → k < length xs → r (getD xs i d) (getD xs k d) ≡ true)
       → pairwise r xs ≡ true
   unfolding pairwise
@@ -173,6 +196,7 @@ module _ {A : Type 0} where
   at-pairwise r (x ∷ xs) d h =
       rw (all-at (r x) xs d (λ k m. h 0 (suc k) (omega arith) (omega arith))) (at-pairwise r xs d (λ i k m n. h (suc i) (suc k) (omega arith) (omega arith)))
 
+  -- where every member stands in r to every later one, the members at any two places do
   pub pairwise-at : (r : A → A → Bool) (xs : List A) (d : A) → pairwise r xs ≡ true → (i k : ℕ) → i < k → k < length xs → r (getD xs i d) (getD xs k d) ≡ true
   unfolding pairwise
   pairwise-at r [] d e i k h l = absurd (omega arith)
@@ -187,6 +211,7 @@ module _ {A : Type 0} where
     pub rest : List A
     pub whole : xs ≡ front ++ x ∷ rest
 
+  -- a list can be taken apart at any of its members
   pub apart-at : (x : A) (xs : List A) → List·Memᴰ x xs → Apart x xs
   apart-at x (y ∷ xs) (List·Memᴰ·head q) = record { front = []; rest = xs; whole = rw q }
   apart-at x (y ∷ xs) (List·Memᴰ·tail m) =
@@ -206,6 +231,7 @@ unfolding upFrom
 length-upFrom u zero = refl
 length-upFrom u (suc n) = ap suc (length-upFrom (suc u) n)
 
+-- the n numbers from u on include each from u to below u + n
 pub upFrom-mem : (u n v : ℕ) → u ≤ v → v < u + n → List·Memᴰ v (upFrom u n)
 unfolding upFrom
 upFrom-mem u zero v l h = absurd (omega arith)
@@ -215,6 +241,7 @@ upFrom-mem u (suc n) v l h = go (ℕ-discrete v u) (upFrom-mem (suc u) n v)
     go (yes e) below = List·Memᴰ·head e
     go (no e) below = List·Memᴰ·tail (below (omega arith) (omega arith))
 
+-- each of the n numbers from u on is at least u and below u + n
 pub mem-upFrom : (u n v : ℕ) → List·Memᴰ v (upFrom u n) → (u ≤ v) × (v < u + n)
 unfolding upFrom
 mem-upFrom u zero v m = absurd (List·Memᴰ·not-nil m)

@@ -21,6 +21,7 @@ use Rattle.floor.specs.Floor.Ours.{plan-complete, plan-framed, plan-insi
 pub not-held : {X : Type 0} {k : ℕ} {j : Job} {p : Plan} → refused k ≡ held j p → X
 not-held {X} {k} {j} {p} e = let z : _≡_ {A = ℕ} 0 1 = cc in absurd (omega arith)
 
+-- two refusals that are the same have the same number
 pub one-number : {k l : ℕ} → refused k ≡ refused l → k ≡ l
 one-number e = cc
 
@@ -29,10 +30,12 @@ pub past-true : (b : Bool) (k : ℕ) (next : Unit {0} → Answer) → b ≡ true
 unfolding past
 past-true b k next e = rw e
 
+-- a test not passed: its number
 pub past-false : (b : Bool) (k : ℕ) (next : Unit {0} → Answer) → b ≡ false → past b k next ≡ refused k
 unfolding past
 past-false b k next e = rw e
 
+-- where a plan is held behind a test, the test was passed, and what follows it gave that plan
 pub past-held : (b : Bool) (k : ℕ) (next : Unit {0} → Answer) {j : Job} {p : Plan} → past b k next ≡ held j p → (b ≡ true) × (next tt ≡ held j p)
 unfolding past
 past-held true k next e = (refl, e)
@@ -48,6 +51,7 @@ pub record Drawn (j : Job) (p : Plan) : Type 0 where
   pub small : test8 p ≡ true
   pub draws : drawable j p ≡ true
 
+-- what tests 8 and 9 let pass is the very job and plan, and both tests were passed
 tested-held : (j : Job) (p : Plan) (i : Job) (q : Plan) → tested j p ≡ held i q → (i ≡ j) × (q ≡ p) × (test8 p ≡ true) × (drawable j p ≡ true)
 unfolding tested
 tested-held j p i q e =
@@ -61,6 +65,7 @@ tested-held j p i q e =
     same-plan : held j p ≡ held i q → q ≡ p
     same-plan e = cc
 
+-- a plan that is held of a job is held with that job, by its computed numbers, past tests 8 and 9
 pub drawn-held : (j i : Job) (p : Plan) → drawn j ≡ held i p → (i ≡ j) × Drawn j p
 unfolding drawn planned
 drawn-held j i p e = go (jobNumbers upright j) refl (jobNumbers level j) refl e
@@ -78,6 +83,7 @@ pub drawn-is : (j : Job) (f g : List ℕ) → jobNumbers upright j ≡ some f �
 unfolding drawn planned
 drawn-is j f g ef eg = rw (ef, eg)
 
+-- what came from a job's numbers past tests 8 and 9 is held
 pub drawn-again : (j : Job) (p : Plan) → Drawn j p → drawn j ≡ held j p
 unfolding tested
 drawn-again j p d =
@@ -116,10 +122,12 @@ module _ (j : Job) (ok : Passes j) where
 
   -- THE SHEET is never wider or higher than the number of rooms plus 2
   module _ (f g : ℕ → ℕ) (nf : Numbers (rules upright j) f) (ng : Numbers (rules level j) g) where
+    -- the width is at most the number of rooms plus 2
     pub width-bound : planOf j f g .width ≤ length j + 2
     unfolding planOf
     width-bound = omega (arith, job-bound upright j (to-vertex j ok) f nf (low 3))
 
+    -- the height is at most the number of rooms plus 2
     pub height-bound : planOf j f g .height ≤ length j + 2
     unfolding planOf
     height-bound = omega (arith, job-bound level j (to-vertex j ok) g ng (low 0))
@@ -128,6 +136,7 @@ module _ (j : Job) (ok : Passes j) where
     pub drawable-good-plan : 0 < length j → drawable j (planOf j f g) ≡ true → GoodPlan j (planOf j f g)
     drawable-good-plan some-room d = drawable-plan j ok (planOf j f g) (plan-complete j f g) some-room (plan-fits j ok some-room f g nf ng) d
 
+    -- with at least one room, the drawing test is passed exactly if the plan by wall numbers is a floor plan
     pub drawable-is-floor : 0 < length j → (drawable j (planOf j f g) ≡ true) ↔ Floor j (planOf j f g)
     drawable-is-floor some-room = (
       λ d. drawable-good-plan some-room d .floor,

@@ -31,10 +31,12 @@ each-kind Q a b c d (suc (suc zero)) h = c
 each-kind Q a b c d (suc (suc (suc zero))) h = d
 each-kind Q a b c d (suc (suc (suc (suc k)))) h = absurd (omega arith)
 
+-- the opposite of a kind's opposite is the kind
 pub opposite-opposite : (k : ℕ) → k ≤ 3 → opposite (opposite k) ≡ k
 unfolding opposite
 opposite-opposite = each-kind (λ k. opposite (opposite k) ≡ k) refl refl refl refl
 
+-- a kind's opposite is a kind: at most 3
 pub opposite-small : (k : ℕ) → k ≤ 3 → opposite k ≤ 3
 unfolding opposite
 opposite-small = each-kind (λ k. opposite k ≤ 3) (omega arith) (omega arith) (omega arith) (omega arith)
@@ -44,11 +46,13 @@ earlier-front : (P : Star) (d e : Entry) (Q : Star) → List·Memᴰ d P → Ear
 earlier-front (c ∷ P) d e Q (List·Memᴰ·head q) = rw q (here (Memᴰ·append-right P (List·Memᴰ·head refl)))
 earlier-front (c ∷ P) d e Q (List·Memᴰ·tail m) = there (earlier-front P d e Q m)
 
+-- an entry stands before each one behind it
 earlier-back : (P : Star) (d e : Entry) (Q : Star) → List·Memᴰ d Q → Earlier e d (P ++ e ∷ Q)
 earlier-back [] d e Q m = here m
 earlier-back (c ∷ P) d e Q m = there (earlier-back P d e Q m)
 
 module _ (j : Job) (ok : Passes j) (p : Plan) (gp : GoodPlan j p) where
+  -- a good plan for the job is a good placement of its stars
   g : Good (starsOf j) (placeOf p)
   g = plan-good j ok p gp
 
@@ -62,6 +66,7 @@ module _ (j : Job) (ok : Passes j) (p : Plan) (gp : GoodPlan j p) where
       (entry-mem (getD j i []) (num k) e me ke)
       (onward-precedes j p (gp .inside) k (d .to) (e .to) (entry-ok j ok i h d md .below) (entry-ok j ok i h e me .below) o)
 
+  -- an entry's neighbour meets the room on the side of the entry's kind
   meet : (k : Side) (i : ℕ) → i < length j → (e : Entry) → List·Memᴰ e (getD j i []) → e .kind ≡ num k → Meets (placeOf p) k (room i) (piece (e .to))
   unfolding starsOf
   meet k i h e m q = g .meets k (room i) (piece (e .to)) h (known-piece j (e .to) (entry-ok j ok i h e m .below)) (entry-mem (getD j i []) (num k) e m q)
@@ -82,6 +87,7 @@ module _ (j : Job) (ok : Passes j) (p : Plan) (gp : GoodPlan j p) where
 kind-mid : (P : Star) (v k : ℕ) (Q : Star) → ofKind k (P ++ entry v k ∷ Q) ≡ ofKind k P + (1 + ofKind k Q)
 kind-mid P v k Q = rw (count-append (λ (e : Entry). eqb (e .kind) k) P (entry v k ∷ Q), kind-self v k Q)
 
+-- where at least one entry is of kind k, here is one
 some-kind : (k : ℕ) (s : Star) → 1 ≤ ofKind k s → (e : Entry) × (List·Memᴰ e s) × (e .kind ≡ k)
 some-kind k s h = let (e, m, q) = count-some (λ (e : Entry). eqb (e .kind) k) s h in (e, m, eqb-true (e .kind) k q)
 

@@ -17,27 +17,10 @@ use Rattle.floor.specs.Jobs.Facts.{Passes, is-room, passing-reads}
 use Rattle.floor.specs.Plans.{Plan, held, drawn, drawRead}
 use Rattle.floor.specs.Plans.Held.{not-held}
 use Rattle.floor.specs.Floor.{GoodPlan}
-use Rattle.floor.specs.Turns.{turned, turningAt, turningFrom, inContact, turning, turn}
+use Rattle.floor.specs.Turns.{turned, turningAt, turningFrom, inContact, turning, turn, Kept, Turnable, turnedBy}
 use Rattle.floor.specs.Turns.Swing.{AtEnd, swing, length-listOf, last-mid, named-back}
-use Rattle.floor.specs.Turns.Turned.{Turn, turn-again, Kept, turn-keeps}
+use Rattle.floor.specs.Turns.Turned.{Turn, turn-again, turn-keeps}
 use Rattle.floor.specs.Turns.Ends.{each-kind, opposite-small, at-ends}
-
--- A CONTACT THAT CAN BE TURNED: of the two rooms b lies above a (m is 0) or to its right (m is 3), and either list has at least two
-pub record Turnable (j : Job) (u v : ℕ) : Type 0 where
-  pub a : ℕ
-  pub b : ℕ
-  pub m : ℕ
-  pub who : ((a ≡ u) × (b ≡ v)) ⊎ ((a ≡ v) × (b ≡ u))
-  pub above-or-right : (m ≡ 0) ⊎ (m ≡ 3)
-  pub room-a : Room j a
-  pub room-b : Room j b
-  pub contact : List·Memᴰ (entry b m) (starOf j a)
-  pub many-a : 2 ≤ length (listOf (starOf j a) m)
-  pub many-b : 2 ≤ length (listOf (starOf j b) (opposite m))
-
--- the job turned there
-abbrev pub turnedBy : {j : Job} {u v : ℕ} → Turnable j u v → Job
-turnedBy {j} {u} {v} t = turned j (t .a) (t .b) (t .m)
 
 -- kinds 1 and 2 are asked for from the other side
 from-other : (k : ℕ) → k ≤ 3 → (eqb k 0 || eqb k 3) ≡ false → (opposite k ≡ 0) ⊎ (opposite k ≡ 3)
@@ -131,6 +114,7 @@ turn-of j ok p gp a b m ra rb i ha hb = go (A .front) (A .rest) (B .front) (B .r
         }
 
 module _ (j : Job) (ok : Passes j) (p : Plan) (gp : GoodPlan j p) where
+  -- in a good plan the two entries of a contact that can be turned swing at the same end of their lists
   turn-at : {u v : ℕ} (t : Turnable j u v) → Turn j (t .a) (t .b) (t .m)
   turn-at t =
       turn-of j ok p gp (t .a) (t .b) (t .m) (t .room-a) (t .room-b) (t .contact) (rw (length-listOf (starOf j (t .a)) (t .m)) at (t .many-a))

@@ -14,9 +14,9 @@ use Rattle.floor.specs.Lists.{sum, isLast}
 use Rattle.floor.specs.Lists.Laws.{and-both, any-count}
 use Rattle.floor.specs.Jobs.{Entry, Star, Job, Room, opposite, isRoom, starOf, names, kindOf, listOf, pairsIn, Reading, reads}
 use Rattle.floor.specs.Jobs.Stars.{entry, named, GoodStar, mem-names}
-use Rattle.floor.specs.Jobs.Facts.{EntryOk, Passes, room-is, star-room, star-frame, passing-true}
+use Rattle.floor.specs.Jobs.Facts.{passes-labelling, EntryOk, Passes, room-is, star-room, star-frame, passing-true}
 use Rattle.floor.specs.Plans.{drawn, drawRead, joined}
-use Rattle.floor.specs.Turns.{turnedKind, rekinded, turned, turningAt, turningFrom, inContact, turning, turn}
+use Rattle.floor.specs.Turns.{turnedKind, rekinded, turned, turningAt, turningFrom, inContact, turning, turn, Kept}
 use Rattle.floor.specs.Turns.Swing.{Swing, length-listOf}
 use Rattle.floor.specs.Turns.Ends.{each-kind, opposite-opposite, opposite-small}
 
@@ -25,11 +25,13 @@ turned-small : (k : ℕ) (l : Bool) → turnedKind k l ≤ 3
 unfolding turnedKind
 turned-small k l = omega arith
 
+-- the opposite of a turned kind is the opposite kind turned at the same end
 turned-opposite : (l : Bool) (k : ℕ) → k ≤ 3 → opposite (turnedKind k l) ≡ turnedKind (opposite k) l
 unfolding turnedKind opposite
 turned-opposite true = each-kind (λ k. opposite (turnedKind k true) ≡ turnedKind (opposite k) true) refl refl refl refl
 turned-opposite false = each-kind (λ k. opposite (turnedKind k false) ≡ turnedKind (opposite k) false) refl refl refl refl
 
+-- a kind turned at one end and then at the other is the kind
 turned-back : (l : Bool) (k : ℕ) → k ≤ 3 → turnedKind (turnedKind k l) (not l) ≡ k
 unfolding turnedKind
 turned-back true = each-kind (λ k. turnedKind (turnedKind k true) false ≡ k) refl refl refl refl
@@ -55,6 +57,7 @@ record Two (j i : Job) (u v t o : ℕ) : Type 0 where
   good-v : GoodStar (starOf i v)
   same : (w : ℕ) → (w ≡ u → ⊥) → (w ≡ v → ⊥) → starOf i w ≡ starOf j w
 
+-- two stars so changed, the rooms named the other way round
 swap : {j i : Job} {u v t o : ℕ} → Two j i u v t o → Two j i v u o t
 swap c = record {
   room-u = c .room-v;
@@ -77,9 +80,11 @@ swap c = record {
 }
 
 module _ (j i : Job) (ok : Passes j) where
+  -- an entry that may stand in a job may stand in any job of as many rooms
   still : (u : ℕ) (e : Entry) → length i ≡ length j → EntryOk (length j) u e → EntryOk (length i) u e
   still u e q x = record { below = omega (arith, x .below); other = x .other; small = x .small; frame = x .frame }
 
+  -- each entry of the changed star of u may stand there
   entries-at : (u v t o : ℕ) → Two j i u v t o → (e : Entry) → List·Memᴰ e (starOf i u) → EntryOk (length i) u e
   entries-at u v t o c e m = go (c .into-u e m)
     where
@@ -96,6 +101,7 @@ module _ (j i : Job) (ok : Passes j) where
           }
       go (inr (ne, m)) = still u e (c .long) (ok .entries u (c .room-u) e m)
 
+  -- each room that the changed star of u lists lists u with the opposite kind
   opposed-at : (u v t o : ℕ) → Two j i u v t o → (e : Entry) → List·Memᴰ e (starOf i u) → 4 ≤ e .to
       → List·Memᴰ (entry u (opposite (e .kind))) (starOf i (e .to))
   opposed-at u v t o c e m l = go (c .into-u e m)
@@ -107,6 +113,7 @@ module _ (j i : Job) (ok : Passes j) where
           rw (a, b, c .t-o) (c .here-v)
       go (inr (ne, m)) = rw (c .same (e .to) (ok .entries u (c .room-u) e m .other) ne) (ok .opposed u (c .room-u) e m l)
 
+  -- each room that the star of a third room lists still lists that room with the opposite kind
   opposed-else : (u v t o : ℕ) → Two j i u v t o → (w : ℕ) → Room j w → (w ≡ u → ⊥) → (w ≡ v → ⊥) → (e : Entry) → List·Memᴰ e (starOf j w) → 4 ≤ e .to
       → List·Memᴰ (entry w (opposite (e .kind))) (starOf i (e .to))
   opposed-else u v t o c w r nu nv e m l = go (ℕ-discrete (e .to) u) (ℕ-discrete (e .to) v)
@@ -148,24 +155,30 @@ module _ (j i : Job) (ok : Passes j) where
 
 -- two stars of a job put anew
 module _ (j : Job) (a b : ℕ) (ra : Room j a) (rb : Room j b) (differ : a ≡ b → ⊥) (A B : Star) where
+  -- the job with star A for room a and star B for room b
   abbrev put : Job
   put = set (set j (a - 4) A) (b - 4) B
 
+  -- the two rooms have different places in the job
   apart-ab : (b - 4) ≢ (a - 4)
   apart-ab e = differ (omega (arith, ra .0, rb .0))
 
+  -- it has as many rooms as before
   put-length : length put ≡ length j
   put-length = length-set (set j (a - 4) A) (b - 4) B ∙ length-set j (a - 4) A
 
+  -- its star of a is A
   put-a : starOf put a ≡ A
   put-a =
       star-room put a (ra .0)
       ∙ getD-set-other (set j (a - 4) A) (b - 4) (a - 4) B [] (λ e. apart-ab (sym e))
       ∙ getD-set-same j (a - 4) A [] (omega (arith, ra .0, ra .1))
 
+  -- its star of b is B
   put-b : starOf put b ≡ B
   put-b = star-room put b (rb .0) ∙ getD-set-same (set j (a - 4) A) (b - 4) B [] (omega (arith, rb .0, rb .1, length-set j (a - 4) A))
 
+  -- every other vertex has its star as before
   put-else : (w : ℕ) → (w ≡ a → ⊥) → (w ≡ b → ⊥) → starOf put w ≡ starOf j w
   put-else w na nb = go (decLt w 4)
     where
@@ -177,6 +190,7 @@ module _ (j : Job) (a b : ℕ) (ra : Room j a) (rb : Room j b) (differ : a ≡ b
           ∙ getD-set-other j (a - 4) (w - 4) A [] (λ e. na (omega (arith, ra .0)))
           ∙ sym (star-room j w (omega arith))
 
+  -- it has as many pairs as before, where the new stars are as long as the old
   put-pairs : length A ≡ length (starOf j a) → length B ≡ length (starOf j b) → pairsIn put ≡ pairsIn j
   unfolding pairsIn
   put-pairs la lb =
@@ -199,6 +213,7 @@ module _ (j : Job) (a b : ℕ) (ra : Room j a) (rb : Room j b) (differ : a ≡ b
         set-getD j (b - 4) [],
       )
 
+  -- putting the old stars back, that of b first, gives the job
   put-back′ : set (set put (b - 4) (starOf j b)) (a - 4) (starOf j a) ≡ j
   put-back′ = set-comm put (b - 4) (a - 4) (starOf j b) (starOf j a) apart-ab ∙ put-back
 
@@ -220,15 +235,19 @@ unfolding turned
 turned-is j a b m t l e q = rw (e, q)
 
 module _ (j : Job) (a b m : ℕ) (T : Turn j a b m) where
+  -- the kind that b takes in the star of a
   abbrev t : ℕ
   t = turnedKind m (T .last)
 
+  -- the kind that a takes in the star of b
   abbrev o : ℕ
   o = turnedKind (opposite m) (T .last)
 
+  -- the opposite of b's new kind is a's
   t-o : opposite t ≡ o
   t-o = turned-opposite (T .last) m (T .small)
 
+  -- the opposite of a's new kind is b's
   o-t : opposite o ≡ t
   o-t = turned-opposite (T .last) (opposite m) (opposite-small m (T .small)) ∙ ap (λ k. turnedKind k (T .last)) (opposite-opposite m (T .small))
 
@@ -236,21 +255,27 @@ module _ (j : Job) (a b m : ℕ) (T : Turn j a b m) where
   abbrev next : Job
   next = set (set j (a - 4) (T .swing-a .star)) (b - 4) (T .swing-b .star)
 
+  -- the turned job of the rules is this job
   next-is : turned j a b m ≡ next
   next-is = turned-is j a b m t (T .last) (T .is-last) refl ∙ rw (t-o, T .swing-a .turns, T .swing-b .turns)
 
+  -- after the turn the star of a is its turned star
   star-a : starOf next a ≡ T .swing-a .star
   star-a = put-a j a b (T .room-a) (T .room-b) (T .differ) (T .swing-a .star) (T .swing-b .star)
 
+  -- after the turn the star of b is its turned star
   star-b : starOf next b ≡ T .swing-b .star
   star-b = put-b j a b (T .room-a) (T .room-b) (T .differ) (T .swing-a .star) (T .swing-b .star)
 
+  -- there are as many rooms after the turn
   long : length next ≡ length j
   long = put-length j a b (T .room-a) (T .room-b) (T .differ) (T .swing-a .star) (T .swing-b .star)
 
+  -- every other star is as before the turn
   else : (w : ℕ) → (w ≡ a → ⊥) → (w ≡ b → ⊥) → starOf next w ≡ starOf j w
   else = put-else j a b (T .room-a) (T .room-b) (T .differ) (T .swing-a .star) (T .swing-b .star)
 
+  -- the turn changes two stars, and in each the kind of one entry
   turn-two : Two j next a b t o
   turn-two = record {
     room-u = T .room-a;
@@ -272,6 +297,7 @@ module _ (j : Job) (a b m : ℕ) (T : Turn j a b m) where
     same = else;
   }
 
+  -- there are as many pairs after the turn
   turn-pairs : pairsIn next ≡ pairsIn j
   turn-pairs = put-pairs j a b (T .room-a) (T .room-b) (T .differ) (T .swing-a .star) (T .swing-b .star) (T .swing-a .long) (T .swing-b .long)
 
@@ -284,11 +310,13 @@ module _ (j : Job) (a b m : ℕ) (T : Turn j a b m) where
       go (no e) (yes f) = rw (f, star-b) (T .swing-b .counts x)
       go (no e) (no f) = rw (else w e f)
 
+  -- the test whether a star names a vertex says the same after the turn
   turn-names : (w x : ℕ) → names (starOf next w) x ≡ names (starOf j w) x
   unfolding names
   turn-names w x =
       any-count (λ (e : Entry). eqb (e .to) x) (starOf next w) ∙ ap (leb 1) (turn-named w x) ∙ sym (any-count (λ (e : Entry). eqb (e .to) x) (starOf j w))
 
+  -- the same vertices are joined after the turn
   turn-joined : (u v : ℕ) → joined next u v ≡ joined j u v
   unfolding joined
   turn-joined u v = rw (turn-names u v, turn-names v u)
@@ -299,26 +327,32 @@ module _ (j : Job) (a b m : ℕ) (T : Turn j a b m) where
       turned-is next a b t m (not (T .last)) (rw star-a (T .swing-a .ends)) (turned-back (T .last) m (T .small))
       ∙ rw (star-a, star-b, T .swing-a .back, T .swing-b .back) (put-back j a b (T .room-a) (T .room-b) (T .differ) (T .swing-a .star) (T .swing-b .star))
 
+  -- the turned job turned again from b is the job
   again-b : turned next b a o ≡ j
   again-b =
       turned-is next b a o (opposite m) (not (T .last)) (rw star-b (T .swing-b .ends)) (turned-back (T .last) (opposite m) (opposite-small m (T .small)))
       ∙ rw (star-a, star-b, opposite-opposite m (T .small), T .swing-a .back, T .swing-b .back) (put-back′ j a b (T .room-a) (T .room-b) (T .differ)
       (T .swing-a .star) (T .swing-b .star))
 
+  -- after the turn a has at least two on the list where b stands
   two-a : 2 ≤ length (listOf (starOf next a) t)
   two-a = rw (length-listOf (starOf next a) t, star-a) (T .swing-a .two)
 
+  -- after the turn b has at least two on the list where a stands
   two-b : 2 ≤ length (listOf (starOf next b) o)
   two-b = rw (length-listOf (starOf next b) o, star-b) (T .swing-b .two)
 
+  -- turned again from a, the lists are long enough, and it comes to the job
   at-a : turningAt next a b t ≡ reads j
   unfolding turningAt
   at-a = passing-true _ 12 _ (rw t-o (and-both _ _ (le-leb 2 _ two-a) (le-leb 2 _ two-b))) ∙ ap reads again-a
 
+  -- turned again from b, the lists are long enough, and it comes to the job
   at-b : turningAt next b a o ≡ reads j
   unfolding turningAt
   at-b = passing-true _ 12 _ (rw o-t (and-both _ _ (le-leb 2 _ two-b) (le-leb 2 _ two-a))) ∙ ap reads again-b
 
+  -- a room of the job is a room after the turn
   room-next : (w : ℕ) → Room j w → isRoom next w ≡ true
   room-next w r = room-is next w (r .0, omega (arith, r .1, long))
 
@@ -346,20 +380,15 @@ turning-again j a b m T = rw (next-is j a b m T) (
       (rw (star-b j a b m T) (T .swing-b .kind)) (at-b j a b m T) (rw (o-t j a b m T) (at-a j a b m T)),
 )
 
+-- the turn made again, in either order of the numbers, answers as the old job numbered and tested does
 pub turn-again : (j : Job) (a b m : ℕ) (T : Turn j a b m) → (turn (turned j a b m) a b ≡ drawn j) × (turn (turned j a b m) b a ≡ drawn j)
 unfolding turn drawRead
 turn-again j a b m T = let (x, y) = turning-again j a b m T in (ap drawRead x, ap drawRead y)
 
--- WHAT A TURN KEEPS: tests 4 to 6, as many rooms and pairs, and who is joined
-pub record Kept (j i : Job) : Type 0 where
-  pub passes : Passes i
-  pub rooms : length i ≡ length j
-  pub pairs : pairsIn i ≡ pairsIn j
-  pub joins : (u v : ℕ) → joined i u v ≡ joined j u v
-
+-- what a turn keeps
 pub turn-keeps : (j : Job) (a b m : ℕ) → Turn j a b m → Passes j → Kept j (turned j a b m)
 turn-keeps j a b m T ok = rw (next-is j a b m T) (record {
-  passes = two-passes j (next j a b m T) ok a b (t j a b m T) (o j a b m T) (turn-two j a b m T);
+  labelling = passes-labelling (next j a b m T) (two-passes j (next j a b m T) ok a b (t j a b m T) (o j a b m T) (turn-two j a b m T));
   rooms = long j a b m T;
   pairs = turn-pairs j a b m T;
   joins = turn-joined j a b m T;

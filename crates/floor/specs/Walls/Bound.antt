@@ -15,9 +15,11 @@ pub record Head : Type 0 where
   pub side : ℕ
   pub most : ℕ
 
+-- every `before` rule ends at a head of the list, and asks for no more than the head's gap
 abbrev pub Heads : List Rule → List Head → Type 0
 Heads E T = (a b x : ℕ) → List·Memᴰ (before a b x) E → (h : Head) × (List·Memᴰ h T) × (h .side ≡ b) × (suc x ≤ h .most)
 
+-- a gap that counts where a test passes, and else nothing
 part : Bool → ℕ → ℕ
 part true c = c
 part false c = 0
@@ -27,38 +29,46 @@ room : List Head → (ℕ → ℕ) → ℕ → ℕ
 room [] g x = 0
 room (h ∷ T) g x = part (leb (g (h .side)) x) (h .most) + room T g x
 
+-- the gaps of all heads together
 abbrev pub all-room : List Head → ℕ
 all-room [] = 0
 all-room (h ∷ T) = h .most + all-room T
 
+-- a gap that may count adds no more than itself
 part-le : (p : Bool) (c : ℕ) → part p c ≤ c
 unfolding part
 part-le true c = omega arith
 part-le false c = omega arith
 
+-- a gap adds no less under a test that passes whenever the other does
 part-mono : (p q : Bool) (c : ℕ) → (p ≡ true → q ≡ true) → part p c ≤ part q c
 unfolding part
 part-mono true q c h = rw (h refl) (omega arith)
 part-mono false q c h = omega arith
 
+-- the heads numbered at most x have no more room than all of them
 room-le : (T : List Head) (g : ℕ → ℕ) (x : ℕ) → room T g x ≤ all-room T
 unfolding room
 room-le [] g x = omega arith
 room-le (h ∷ T) g x = omega (arith, part-le (leb (g (h .side)) x) (h .most), room-le T g x)
 
+-- what is at most x is at most any larger number
 leb-up : (n x y : ℕ) → x ≤ y → leb n x ≡ true → leb n y ≡ true
 leb-up n x y h e = le-leb n y (omega (arith, leb-true n x e))
 
+-- the heads numbered at most y have no less room than those numbered at most x, where x is at most y
 room-mono : (T : List Head) (g : ℕ → ℕ) (x y : ℕ) → x ≤ y → room T g x ≤ room T g y
 unfolding room
 room-mono [] g x y l = omega arith
 room-mono (h ∷ T) g x y l =
     omega (arith, part-mono (leb (g (h .side)) x) (leb (g (h .side)) y) (h .most) (leb-up (g (h .side)) x y l), room-mono T g x y l)
 
+-- a head numbered above x and at most y adds its gap between x and y
 part-new : (n x y c : ℕ) → x < n → n ≤ y → part (leb n x) c + c ≤ part (leb n y) c
 unfolding part
 part-new n x y c l u = rw (lt-leb n x l, le-leb n y u) (omega arith)
 
+-- from x to y the heads gain at least the room of one that is numbered above x and at most y
 room-step : (T : List Head) (g : ℕ → ℕ) (x y : ℕ) (h : Head) → List·Memᴰ h T → x < g (h .side) → g (h .side) ≤ y → room T g x + h .most ≤ room T g y
 unfolding room
 room-step (k ∷ T) g x y h (List·Memᴰ·head e) l u =
@@ -66,6 +76,7 @@ room-step (k ∷ T) g x y h (List·Memᴰ·head e) l u =
 room-step (k ∷ T) g x y h (List·Memᴰ·tail m) l u =
     omega (arith, part-mono (leb (g (k .side)) x) (leb (g (k .side)) y) (k .most) (leb-up (g (k .side)) x y (omega arith)), room-step T g x y h m l u)
 
+-- where the numbers respect the rules, a walk to a side is at most 1 plus the room of the heads numbered no higher than that side
 walk-room : (E : List Rule) (T : List Head) (g : ℕ → ℕ) → Heads E T → Respects E g → {s v : ℕ} → Walk E s v → v ≤ 1 + room T g (g s)
 walk-room E T g hs r start = omega arith
 walk-room E T g hs r (on {a} {b} m w) = rw (← (r (same a b) m)) (walk-room E T g hs r w)

@@ -18,10 +18,12 @@ use Rattle.floor.specs.Walls.{Rule, same, before, Numbers, Holds, Respec
 use Rattle.floor.specs.Walls.Walk.{Walk, start, on, off, up, tight, unique, numbers-respects}
 use Rattle.floor.specs.Walls.Bound.{Head, Heads, all-room, walk-bound}
 
+-- a raise keeps how many sides there are
 pub length-raise : (f : List ℕ) (a b w : ℕ) → length (raise f a b w) ≡ length f
 unfolding raise
 length-raise f a b w = length-set f b (max (at f b) (at f a + w))
 
+-- the larger of two numbers is one of them
 max-is : (u v : ℕ) → (max u v ≡ u) ⊎ (max u v ≡ v)
 max-is u v = go (decLe v u)
   where
@@ -54,11 +56,13 @@ abbrev pub total : List ℕ → ℕ
 total [] = 0
 total (x ∷ f) = x + total f
 
+-- one number set anew: the total changes by as much as that number does
 total-set : (f : List ℕ) (b v d : ℕ) → b < length f → total (set f b v) + getD f b d ≡ total f + v
 total-set [] b v d h = absurd (omega arith)
 total-set (x ∷ f) zero v d h = omega arith
 total-set (x ∷ f) (suc b) v d h = omega (arith, total-set f b v d (omega arith))
 
+-- a raise never makes the total smaller
 pub raise-total : (f : List ℕ) (a b w : ℕ) → total f ≤ total (raise f a b w)
 unfolding raise
 raise-total f a b w = go (decLt b (length f))
@@ -67,6 +71,7 @@ raise-total f a b w = go (decLt b (length f))
     go (yes l) = omega (arith, total-set f b (max (at f b) (at f a + w)) 1 l)
     go (no l) = rw (set-out f b (max (at f b) (at f a + w)) (omega arith)) (omega arith)
 
+-- a raise that has something to do makes the total larger
 pub raise-more : (f : List ℕ) (a b w : ℕ) → b < length f → at f b < at f a + w → total f < total (raise f a b w)
 unfolding raise
 raise-more f a b w l h = omega (arith, total-set f b (max (at f b) (at f a + w)) 1 l)
@@ -75,6 +80,7 @@ raise-more f a b w l h = omega (arith, total-set f b (max (at f b) (at f a + w))
 abbrev pub Reached : List Rule → List ℕ → Type 0
 Reached E f = (s : ℕ) → Walk E s (at f s)
 
+-- where walks go on from a to b by w, a raise of b to w above a leaves numbers that walks reach
 pub raise-reached : (E : List Rule) (f : List ℕ) (a b w : ℕ) → ((v : ℕ) → Walk E a v → Walk E b (v + w)) → Reached E f → Reached E (raise f a b w)
 raise-reached E f a b w step k s = go (raise-is f a b w s)
   where
@@ -82,28 +88,33 @@ raise-reached E f a b w step k s = go (raise-is f a b w s)
     go (inl e) = rw e (k s)
     go (inr e) = rw (e .1, e .0) (step (at f a) (k a))
 
+-- numbers that walks reach, raised as far as one of the rules asks, are reached again
 pub relax1-reached : (E : List Rule) (r : Rule) (f : List ℕ) → List·Memᴰ r E → Reached E f → Reached E (relax1 r f)
 unfolding relax1
 relax1-reached E (same a b) f m k =
     raise-reached E (raise f a b 0) b a 0 (λ v w. rw add-zero (off m w)) (raise-reached E f a b 0 (λ v w. rw add-zero (on m w)) k)
 relax1-reached E (before a b x) f m k = raise-reached E f a b (suc x) (λ v w. up m w) k
 
+-- so they are after a pass over any of the rules
 pub relax-reached : (E D : List Rule) (f : List ℕ) → ((r : Rule) → List·Memᴰ r D → List·Memᴰ r E) → Reached E f → Reached E (relax D f)
 unfolding relax
 relax-reached E [] f i k = k
 relax-reached E (r ∷ D) f i k =
     relax-reached E D (relax1 r f) (λ q m. i q (List·Memᴰ·tail m)) (relax1-reached E r f (i r (List·Memᴰ·head refl)) k)
 
+-- one rule keeps how many sides there are
 pub length-relax1 : (r : Rule) (f : List ℕ) → length (relax1 r f) ≡ length f
 unfolding relax1
 length-relax1 (same a b) f = length-raise (raise f a b 0) b a 0 ∙ length-raise f a b 0
 length-relax1 (before a b x) f = length-raise f a b (suc x)
 
+-- a pass keeps how many sides there are
 pub length-relax : (E : List Rule) (f : List ℕ) → length (relax E f) ≡ length f
 unfolding relax
 length-relax [] f = refl
 length-relax (r ∷ E) f = length-relax E (relax1 r f) ∙ length-relax1 r f
 
+-- a rule that the test finds met is respected
 met-holds : (f : List ℕ) (r : Rule) → met f r ≡ true → Holds (at f) r
 met-holds f (same a b) e = eqb-true (at f a) (at f b) e
 met-holds f (before a b x) e = leb-true (at f a + suc x) (at f b) e
@@ -119,16 +130,19 @@ abbrev pub Within : ℕ → Rule → Type 0
 Within n (same a b) = (a < n) × (b < n)
 Within n (before a b x) = (a < n) × (b < n)
 
+-- one rule never makes the total smaller
 relax1-total : (r : Rule) (f : List ℕ) → total f ≤ total (relax1 r f)
 unfolding relax1
 relax1-total (same a b) f = omega (arith, raise-total f a b 0, raise-total (raise f a b 0) b a 0)
 relax1-total (before a b x) f = raise-total f a b (suc x)
 
+-- a pass never makes the total smaller
 relax-total : (E : List Rule) (f : List ℕ) → total f ≤ total (relax E f)
 unfolding relax
 relax-total [] f = omega arith
 relax-total (r ∷ E) f = omega (arith, relax1-total r f, relax-total E (relax1 r f))
 
+-- a rule that is met changes nothing
 relax1-rest : (r : Rule) (f : List ℕ) → met f r ≡ true → relax1 r f ≡ f
 unfolding relax1
 relax1-rest (same a b) f e =
@@ -137,6 +151,7 @@ relax1-rest (same a b) f e =
     rw k (raise-rest f b a 0 (omega arith))
 relax1-rest (before a b x) f e = raise-rest f a b (suc x) (leb-true (at f a + suc x) (at f b) e)
 
+-- a rule that is not met makes the total larger
 relax1-more : (r : Rule) (f : List ℕ) → Within (length f) r → met f r ≡ false → total f < total (relax1 r f)
 unfolding relax1
 relax1-more (same a b) f i e = go (decLt (at f b) (at f a))
@@ -159,6 +174,7 @@ relax-more (r ∷ E) f i e = go (met f r) refl (relax-more E f (λ q m. i q (Lis
     go true h below = rw (relax1-rest r f h) (below (rw h at e))
     go false h below = omega (arith, relax1-more r f (i r (List·Memᴰ·head refl)) h, relax-total E (relax1 r f))
 
+-- where some number is found above top, there is a side with such a number
 over-some : (top : ℕ) (f : List ℕ) → over top f ≡ true → (s : ℕ) × (top < at f s)
 unfolding over
 over-some top [] e = let z : _≡_ {A = ℕ} 0 1 = cc in absurd (omega arith)
@@ -168,6 +184,7 @@ over-some top (x ∷ f) e = go (ltb top x) refl (over-some top f)
     go true h below = (zero, ltb-true top x h)
     go false h below = let (s, l) = below (rw h at e) in (suc s, l)
 
+-- where no number is above top, the total is at most top times the number of sides
 over-none : (top : ℕ) (f : List ℕ) → over top f ≡ false → total f ≤ length f * top
 unfolding over
 over-none top [] e = omega arith
@@ -182,6 +199,7 @@ abbrev pub Right : List Rule → ℕ → Option (List ℕ) → Type 0
 Right E n (some f) = Numbers E (at f) × (length f ≡ n)
 Right E n none = Circle E
 
+-- no walk is below 1
 pub walk-positive : {E : List Rule} {s v : ℕ} → Walk E s v → 1 ≤ v
 walk-positive start = omega arith
 walk-positive (on m w) = walk-positive w
@@ -205,6 +223,7 @@ ones-reached E n s = go (decLt s n)
     go (no h) = rw (List·getD-eq-default {A = ℕ} (replicate n 1) 1 {n = s} (omega (arith, length-replicate {A = ℕ} n 1))) start
 
 module _ (E : List Rule) (T : List Head) (n : ℕ) (hs : Heads E T) (i : (r : Rule) → List·Memᴰ r E → Within n r) where
+  -- passes from numbers that walks reach, with enough of them left, give the numbers of the definition or show a circle
   passes-right : (k : ℕ) (f : List ℕ) (m o : Bool) → meets E f ≡ m → over (1 + all-room T) f ≡ o → length f ≡ n → Reached E f
       → n * (1 + all-room T) < k + total f → Right E n (passes E (1 + all-room T) k m o f)
   unfolding passes

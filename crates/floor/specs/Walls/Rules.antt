@@ -36,6 +36,7 @@ abbrev Every : (Rule → Type 0) → List Rule → Type 0
 Every P E = (r : Rule) → List·Memᴰ r E → P r
 
 module _ (P : Rule → Type 0) where
+  -- where all rules of two lists have P, all of the two together do
   every-append : (D E : List Rule) → Every P D → Every P E → Every P (D ++ E)
   every-append D E x y r m = go (List·Memᴰ·append-cases D m)
     where
@@ -43,17 +44,21 @@ module _ (P : Rule → Type 0) where
       go (inl n) = x r n
       go (inr n) = y r n
 
+  -- rules under a condition all have P, where they do whenever the condition holds
   every-when : (t : Bool) (E : List Rule) → (t ≡ true → Every P E) → Every P (when t E)
   every-when true E h = h refl
   every-when false E h = λ r m. elim m [ ]
 
+  -- a list of one rule that has P
   every-one : (r : Rule) → P r → Every P (r ∷ [])
   every-one r h q (List·Memᴰ·head e) = rw e h
 
+  -- a rule under a condition that holds is there
   when-mem : (t : Bool) (E : List Rule) (r : Rule) → t ≡ true → List·Memᴰ r E → List·Memᴰ r (when t E)
   when-mem t E r e m = rw e m
 
   module _ (a : Axis) where
+    -- where what an entry says has P, every rule of the entry does
     pub entry-every : (u : ℕ) (e : Entry) → Asks P a u e → Every P (entryRules a u e)
     unfolding entryRules
     entry-every u e h =
@@ -67,6 +72,7 @@ module _ (P : Rule → Type 0) where
         let (x, y) = h .if-cross (eqb-true (e .kind) (a .cross) c) (leb-true 4 (e .to) d) in
         every-append (before (low u) (high (e .to)) 0 ∷ []) (before (low (e .to)) (high u) 0 ∷ []) (every-one _ x) (every-one _ y))))
 
+    -- where every rule of an entry has P, what the entry says has
     entry-asks : (u : ℕ) (e : Entry) → Every P (entryRules a u e) → Asks P a u e
     unfolding entryRules
     entry-asks u e r = record {
@@ -83,12 +89,14 @@ module _ (P : Rule → Type 0) where
             (Memᴰ·append-right (when (eqb (e .kind) (a .near)) (same (high (e .to)) (low u) ∷ []))
             (when-mem (eqb (e .kind) (a .cross) && leb 4 (e .to)) _ q (and-both _ _ (eq-eqb (e .kind) (a .cross) k) (le-leb 4 (e .to) l)) m))
 
+    -- where what each entry of a star says has P, every rule of the star does
     star-every : (u : ℕ) (s : Star) → ((e : Entry) → List·Memᴰ e s → Asks P a u e) → Every P (starRules a u s)
     unfolding starRules
     star-every u [] h = λ r m. elim m [ ]
     star-every u (e ∷ s) h =
         every-append (entryRules a u e) (starRules a u s) (entry-every u e (h e (List·Memᴰ·head refl))) (star-every u s (λ f m. h f (List·Memᴰ·tail m)))
 
+    -- where every rule of a star has P, what each of its entries says has
     star-asks : (u : ℕ) (s : Star) → Every P (starRules a u s) → (e : Entry) → List·Memᴰ e s → Asks P a u e
     unfolding starRules
     star-asks u (f ∷ s) r e (List·Memᴰ·head q) = rw q (entry-asks u f (λ x m. r x (Memᴰ·append-left _ m)))
@@ -130,9 +138,11 @@ module _ (P : Rule → Type 0) where
 abbrev pub Obeys : Axis → (ℕ → ℕ) → Job → Type 0
 Obeys a g j = Told (Holds g) a 4 j
 
+-- numbers that do what the job says respect its rules
 pub obeys-respects : (a : Axis) (g : ℕ → ℕ) (j : Job) → Obeys a g j → Respects (rules a j) g
 obeys-respects a g j o = told-every (Holds g) a 4 j o
 
+-- numbers that respect a job's rules do what the job says
 pub respects-obeys : (a : Axis) (g : ℕ → ℕ) (j : Job) → Respects (rules a j) g → Obeys a g j
 respects-obeys a g j r = every-told (Holds g) a 4 j r
 
@@ -146,11 +156,13 @@ heads : ℕ → ℕ → List Head
 heads u zero = []
 heads u (suc k) = record { side = high u; most = 1 } ∷ heads (suc u) k
 
+-- the high sides of k rooms have room k together
 heads-room : (u k : ℕ) → all-room (heads u k) ≡ k
 unfolding heads
 heads-room u zero = refl
 heads-room u (suc k) = omega (arith, heads-room (suc u) k)
 
+-- the high side of each of these rooms is among them, with the gap 1
 heads-mem : (u k v : ℕ) → u ≤ v → v < u + k → List·Memᴰ (record { side = high v; most = 1 }) (heads u k)
 unfolding heads
 heads-mem u zero v l h = absurd (omega arith)
@@ -170,6 +182,7 @@ pub to-vertex : (j : Job) → Passes j → Named j
 to-vertex j k i h e m = k .entries (4 + i) (omega arith, omega arith) e (rw (star-at j i) m) .below
 
 module _ (a : Axis) (j : Job) (k : Named j) where
+  -- each rule of a job has its sides from the job's vertices, and each `before` ends at the high side of a room, by 1
   sane : (r : Rule) → List·Memᴰ r (rules a j) → Sane (length j + 4) r
   sane = told-every (Sane (length j + 4)) a 4 j (record {
     own = λ i h. (omega arith, omega arith, refl, (4 + i, omega arith, omega arith, refl));
@@ -185,12 +198,14 @@ module _ (a : Axis) (j : Job) (k : Named j) where
         };
   })
 
+  -- each `before` of a job ends at the high side of one of its rooms, by 1
   job-heads : Heads (rules a j) (heads 4 (length j))
   job-heads b c x m =
       let s : Sane (length j + 4) (before b c x) = sane (before b c x) m in
       let (v, lo, hi, e) = s .3 in
       (record { side = high v; most = 1 }, heads-mem 4 (length j) v lo (omega arith), e, omega (arith, s .2))
 
+  -- each side of a job's rules is one of its vertices' sides
   job-within : (r : Rule) → List·Memᴰ r (rules a j) → Within (2 * (length j + 4)) r
   job-within (same b c) m = sane (same b c) m
   job-within (before b c x) m = let s : Sane (length j + 4) (before b c x) = sane (before b c x) m in (s .0, s .1)

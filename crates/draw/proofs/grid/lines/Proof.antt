@@ -4,10 +4,10 @@ use Rattle.draw.proofs.grid.lines.Statement.{statement}
 use Rattle.draw.proofs.grid.lines.Tie as tie
 
 abbrev Inv-loop : tie.InvT-loop
-Inv-loop axis width height every last at₀ at = Unit
+Inv-loop axis sheet every last at₀ at = Unit
 
 abbrev μ-loop : tie.MeasureT-loop
-μ-loop axis width height every last at₀ at = last - at
+μ-loop axis sheet every last at₀ at = last - at
 
 cells-requires : tie.Need-cells-requires Inv-loop μ-loop
 cells-requires c κs = search needs

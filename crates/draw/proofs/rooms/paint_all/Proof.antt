@@ -4,10 +4,10 @@ use Rattle.draw.proofs.rooms.paint_all.Statement.{statement}
 use Rattle.draw.proofs.rooms.paint_all.Tie as tie
 
 abbrev Inv-loop : tie.InvT-loop
-Inv-loop layer plan many v₀ v = Unit
+Inv-loop layer sheet plan tints many v₀ v = Unit
 
 abbrev μ-loop : tie.MeasureT-loop
-μ-loop layer plan many v₀ v = many - v
+μ-loop layer sheet plan tints many v₀ v = many - v
 
 wide-requires : tie.Need-wide-requires Inv-loop μ-loop
 wide-requires c κs = search needs
@@ -20,6 +20,9 @@ loop-holds c = search needs
 
 rectangle-requires : tie.Need-rectangle-requires Inv-loop μ-loop
 rectangle-requires c κs = search needs
+
+tint-of-requires : tie.Need-tint-of-requires Inv-loop μ-loop
+tint-of-requires c κs = search needs
 
 paint-requires : tie.Need-paint-requires Inv-loop μ-loop
 paint-requires c κs = search needs
@@ -46,6 +49,7 @@ paint-all-spec =
     add-many
     loop-holds
     rectangle-requires
+    tint-of-requires
     paint-requires
     add-v
     loop-less

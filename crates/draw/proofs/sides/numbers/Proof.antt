@@ -4,25 +4,19 @@ use Rattle.draw.proofs.sides.numbers.Statement.{statement}
 use Rattle.draw.proofs.sides.numbers.Tie as tie
 
 abbrev Inv-loop : tie.InvT-loop
-Inv-loop axis width height last every at₀ at = Unit
+Inv-loop axis sheet last at₀ at = Unit
 
 abbrev μ-loop : tie.MeasureT-loop
-μ-loop axis width height last every at₀ at = last - at
+μ-loop axis sheet last at₀ at = last - at
 
 cells-requires : tie.Need-cells-requires Inv-loop μ-loop
 cells-requires c κs = search needs
 
-step-requires : tie.Need-step-requires Inv-loop μ-loop
-step-requires c κs = search needs
-
 loop-holds : tie.Need-loop-holds Inv-loop μ-loop
 loop-holds c = search needs
 
-rem-if1 : tie.Need-rem-if1 Inv-loop μ-loop
-rem-if1 c = search needs
-
-number-requires : tie.Need-number-requires Inv-loop μ-loop
-number-requires c κs = search needs
+number-line-requires : tie.Need-number-line-requires Inv-loop μ-loop
+number-line-requires c κs = search needs
 
 add-at : tie.Need-add-at Inv-loop μ-loop
 add-at c = search needs
@@ -33,8 +27,8 @@ loop-less c = search needs
 loop-again : tie.Need-loop-again Inv-loop μ-loop
 loop-again c = search needs
 
-number-requires-2 : tie.Need-number-requires-2 Inv-loop μ-loop
-number-requires-2 c κs = search needs
+number-line-requires-2 : tie.Need-number-line-requires-2 Inv-loop μ-loop
+number-line-requires-2 c κs = search needs
 
 returns : tie.Need-returns Inv-loop μ-loop
 returns c = search needs
@@ -46,12 +40,10 @@ numbers-spec =
     Inv-loop
     μ-loop
     cells-requires
-    step-requires
     loop-holds
-    rem-if1
-    number-requires
+    number-line-requires
     add-at
     loop-less
     loop-again
-    number-requires-2
+    number-line-requires-2
     returns)
