@@ -4,13 +4,13 @@
  * No state is kept between two calls: each reads a job's bytes anew, so calls may run at once in several threads.
  *
  * An answer is one number. Below 256 it is a refusal, and nothing was written:
- *    1  the bytes are not a job's fields     8  the sheet is wider or higher than 64
+ *    1  the bytes are not a job's fields     7  walls run in a circle
  *    2  no rooms, or more than 60            9  the drawing test fails
  *    3  more than 360 pairs                 11  not two rooms in contact
  *    4  a neighbour or kind that cannot be  12  a list has fewer than two
  *    5  not a star                          13  no such vertex
  *    6  a contact that one room lacks       14  the buffer is too short
- *    7  walls run in a circle
+ * 8 is not used.
  * From 256 on it is 256 plus a value: the number of bytes written, or 1 for yes and 0 for no.
  *
  * Bytes of `out` behind those that were written stay as they were.
@@ -32,19 +32,19 @@ extern "C" {
 #define TIRUNOIWA_PLAN_MOST (5 + 64 * 8)
 #define TIRUNOIWA_JOB_MOST (4 + 60 * 3 + 360 * 2)
 
-/* Reads a job and writes its plan to the front of `out`. Answers 256 + the plan's length, or 1 to 9, 14. */
+/* Reads a job and writes its plan to the front of `out`. Answers 256 + the plan's length, or 1 to 7, 9, 14. */
 size_t tirunoiwa_plan(const uint8_t *job, size_t job_length, uint8_t *out, size_t out_length);
 
-/* Reads a job, turns the contact of rooms u and v, and writes the turned job to the front of `out`. Answers 256 + its length, or 1 to 9, 11, 12, 14. */
+/* Reads a job, turns the contact of rooms u and v, and writes the turned job to the front of `out`. Answers 256 + its length, or 1 to 7, 9, 11, 12, 14. */
 size_t tirunoiwa_turned(const uint8_t *job, size_t job_length, size_t u, size_t v, uint8_t *out, size_t out_length);
 
 /*
- * Writes the bytes of a room's star to the front of `out`; none where the job's bytes fail test 1 or 2 or have no such room. Tests 3 to 9 are not made.
+ * Writes the bytes of a room's star to the front of `out`; none where the job's bytes fail test 1 or 2 or have no such room. Tests 3 to 7 and 9 are not made.
  * Answers 256 + the star's length, or 14.
  */
 size_t tirunoiwa_star(const uint8_t *job, size_t job_length, size_t room, uint8_t *out, size_t out_length);
 
-/* Reads a job; whether vertices u and v share a wall length of at least 1. Answers 257 for yes, 256 for no, or 1 to 9, 13. */
+/* Reads a job; whether vertices u and v share a wall length of at least 1. Answers 257 for yes, 256 for no, or 1 to 7, 9, 13. */
 size_t tirunoiwa_share(const uint8_t *job, size_t job_length, size_t u, size_t v);
 
 /* The number of the refusal, or 0 where the answer is none. */

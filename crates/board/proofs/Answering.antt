@@ -81,7 +81,7 @@ module _ (bs : List ℕ) (r : Read) (t : ReadTells r (firstSix (readJob bs))) wh
     stars-held = rw six at (t .keeps)
 
     module _ (d : Drawing) (u : Draws d j (drawnAny j)) where
-      -- tests 7 to 9
+      -- tests 7 and 9
       pub plan-undrawn : (q : Planned) (k : ℕ) → d .answer ≡ Undrawn k → (q .answer ≡ Undrawn k) × (q .board ≡ noBoard) → Plans q (load bs)
       unfolding said
       plan-undrawn q k f p =

@@ -19,7 +19,7 @@ pub struct Board {
     pub plan: Plan,
 }
 
-// A job planned: the answer of tests 1 to 9, and the board of it, none where it is refused.
+// A job planned: the answer of tests 1 to 7 and 9, and the board of it, none where it is refused.
 pub struct Planned {
     pub answer: drawing::Answer,
     pub board: Board,
@@ -63,7 +63,7 @@ fn refused(k: u8) -> Planned
     }
 }
 
-// Held stars numbered and drawn: tests 7, 8 and 9.
+// Held stars numbered and drawn: tests 7 and 9.
 fn draw_stars(stars: Stars) -> Drawing
     ensures { λ r. ⌜ Draws r (jobOf stars) (drawnAny (jobOf stars)) ⌝ }
 {
@@ -81,7 +81,7 @@ fn stays(board: Board, k: u8) -> Step
     }
 }
 
-// Stars drawn, and held with their plan; all stays as it was where test 7, 8 or 9 fails.
+// Stars drawn, and held with their plan; all stays as it was where test 7 or 9 fails.
 fn hold_drawn(kept: Board, next: Stars) -> Step
     ensures { λ r. ⌜ Tells r [] (newly kept next (drawnAny (jobOf next))) ⌝ }
 {
@@ -100,7 +100,7 @@ fn hold_drawn(kept: Board, next: Stars) -> Step
     }
 }
 
-// A job's bytes planned: tests 1 to 9.
+// A job's bytes planned: tests 1 to 7 and 9.
 pub fn plan_job(job: &[u8]) -> Planned
     ensures { λ r. ⌜ Plans r (load (now (job .entry))) ⌝ }
 {
@@ -128,7 +128,7 @@ pub fn plan_job(job: &[u8]) -> Planned
 }
 
 impl Board {
-    // A job loaded: 1 to 9.
+    // A job loaded: 1 to 7, and 9.
     pub fn load(self, job: &[u8]) -> Step
         ensures { λ r. ⌜ Tells r [] (outcome self (loads (now (job .entry)))) ⌝ }
     {
@@ -145,7 +145,7 @@ impl Board {
         }
     }
 
-    // A contact turned, its two rooms named in either order: 10, 11, 12, then 7, 8 and 9 of the turned labelling.
+    // A contact turned, its two rooms named in either order: 10, 11, 12, then 7 and 9 of the turned labelling.
     pub fn turn(self, u: usize, v: usize) -> Step
         ensures { λ r. ⌜ Tells r [] (outcome self (turns u v)) ⌝ }
     {

@@ -14,7 +14,7 @@ use Rattle.floor.specs.Fields.{Bytes}
 use Rattle.floor.specs.Jobs.{Job, test2}
 use Rattle.floor.specs.Jobs.Facts.{Passes}
 use Rattle.floor.specs.Walls.{Numbers, upright, level, rules, at, jobNumbers}
-use Rattle.floor.specs.Plans.{Rect, nowhere, Plan, rectOf, planOf, drawable, Answer, refused, test8, drawn, writePlan}
+use Rattle.floor.specs.Plans.{Rect, nowhere, Plan, rectOf, planOf, drawable, Answer, refused, drawn, writePlan}
 use Rattle.floor.specs.Plans.Held.{one-number, not-held, drawn-held, drawable-is-floor, held-good, nine}
 use Rattle.floor.specs.Floor.{Complete, Floor}
 use Rattle.fields.specs.declared.Written.{Written}
@@ -131,9 +131,9 @@ module _ (j : Job) (rooms : test2 (length j) ≡ true) (ok : Passes j) where
     unfolding said
     refused-exactly k = (λ e. sym says-drawn ∙ rw e, λ e. same-answer (r .answer) (Refused k) j (planIn (r .plan)) (refused k) (says-drawn ∙ e) refl)
 
-    -- THE ANSWER IS REFUSAL 9, for a numbered job whose sheet passes test 8, exactly when the plan by its wall numbers is no floor plan
-    pub refused-nine : (f g : List ℕ) → jobNumbers upright j ≡ some f → jobNumbers level j ≡ some g → test8 (planOf j (at f) (at g)) ≡ true
+    -- THE ANSWER IS REFUSAL 9, for a numbered job, exactly when the plan by its wall numbers is no floor plan
+    pub refused-nine : (f g : List ℕ) → jobNumbers upright j ≡ some f → jobNumbers level j ≡ some g
         → (r .answer ≡ Refused 9) ↔ (Floor j (planOf j (at f) (at g)) → ⊥)
-    refused-nine f g ef eg t8 =
-        let n : (drawn j ≡ refused 9) ↔ (Floor j (planOf j (at f) (at g)) → ⊥) = nine j ok some-room f g ef eg t8 in
+    refused-nine f g ef eg =
+        let n : (drawn j ≡ refused 9) ↔ (Floor j (planOf j (at f) (at g)) → ⊥) = nine j ok some-room f g ef eg in
         (λ e. n .0 (refused-exactly 9 .0 e), λ h. refused-exactly 9 .1 (n .1 h))

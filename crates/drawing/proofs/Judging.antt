@@ -1,4 +1,4 @@
--- Tests 7 to 9 of any held stars, as the code comes by them. Assumes nothing.
+-- Tests 7 and 9 of any held stars, as the code comes by them. Assumes nothing.
 use Prim.Native.Nat.{ℕ, zero, suc, _+_, _*_, _-_, _≤_, _<_}
 use mathlib.Core.Path.{_≡_, refl, sym, ap, _∙_}
 use mathlib.Core.Logic.{_⊎_, inl, inr}
@@ -14,7 +14,7 @@ use Rattle.floor.specs.Lists.{upFrom}
 use Rattle.floor.specs.Lists.Laws.{and-left, and-right}
 use Rattle.floor.specs.Jobs.{Job, test2, rooms}
 use Rattle.floor.specs.Walls.{upright, level, low, high, at}
-use Rattle.floor.specs.Plans.{Rect, nowhere, Plan, rectOf, roomRect, planOf, drawable, Answer, refused, held, test8, tested, planned}
+use Rattle.floor.specs.Plans.{Rect, nowhere, Plan, rectOf, roomRect, planOf, drawable, Answer, refused, held, tested, planned}
 use Rattle.floor.specs.Plans.Held.{past-true, past-false}
 use Rattle.floor.specs.Floor.{Complete}
 use Rattle.floor.specs.Floor.Ours.{plan-complete}
@@ -25,7 +25,7 @@ use Rattle.walls.specs.declared.Walls.{Walls}
 use Rattle.walls.specs.declared.Sides.{Sides}
 use Rattle.walls.specs.declared.Sheet.{Sheet}
 use Rattle.walls.specs.Numbers.{numbersIn, wallsOf, sheetOf}
-use Rattle.walls.proofs.Corollaries.{Reads, Counted, counted, circled, sheet-fits-test8}
+use Rattle.walls.proofs.Corollaries.{Reads, Counted, counted, circled, sheet-bound}
 use Rattle.drawing.specs.declared.Answer.the-variants.{Drawn, Refused}
 use Rattle.drawing.specs.declared.Plan.{Plan as HeldPlan}
 use Rattle.drawing.specs.declared.Drawing.{Drawing}
@@ -83,7 +83,7 @@ of-vertex : (p : Plan) (v : ℕ) → rectOf p v .vertex ≡ getD (p .rects) v no
 unfolding rectOf
 of-vertex p v = refl
 
--- a plan with a rectangle for each vertex, in vertex order, and for no more than 64
+-- a plan with a rectangle for each vertex, in vertex order, and for no more than 60 rooms
 pub held-back : (j : Job) (p : Plan) → Complete j p → length j ≤ 60 → planIn (heldPlan p) ≡ p
 unfolding planIn heldPlan
 held-back j p c h =
@@ -170,66 +170,55 @@ module _ (j : Job) (w : Walls) (ew : w ≡ wallsOf j) where
     unfolding test2
     few-rooms = leb-true (length j) 60 (and-right (leb 1 (length j)) (leb (length j) 60) (c .rooms))
 
-    module _ (s : Sheet) (es : s ≡ sheetOf w) (fits : Bool) (ef : fits ≡ (leb (s .width) 64 && leb (s .height) 64)) where
-      fits-eight : fits ≡ test8 p
-      fits-eight =
-          ef
-          ∙ ap (λ (q : Sheet). leb (q .width) 64 && leb (q .height) 64) (es ∙ ap (λ (x : Walls). sheetOf x) ew)
-          ∙ sym (sheet-fits-test8 j (at (c .xs)) (at (c .ys)) (wallsOf j) (length j + 4) (c .reads))
+    module _ (s : Sheet) (es : s ≡ sheetOf w) where
+      -- what placing the rooms asks
+      pub placed-asks : (n : ℕ) → n ≡ length j
+          → (s .width ≤ n + 2) × (1 ≤ s .width) × (s .height ≤ n + 2) × (1 ≤ s .height) × (n ≤ 60)
+      placed-asks n en =
+          let x : s .width ≡ sheetOf w .width = ap (λ (q : Sheet). q .width) es in
+          let y : s .height ≡ sheetOf w .height = ap (λ (q : Sheet). q .height) es in
+          let x′ : sheetOf w .width ≡ sheetOf (wallsOf j) .width = ap (λ (v : Walls). sheetOf v .width) ew in
+          let y′ : sheetOf w .height ≡ sheetOf (wallsOf j) .height = ap (λ (v : Walls). sheetOf v .height) ew in
+          let (most, high) = sheet-bound j c in
+          (omega (arith, x, x′, most), omega (arith, x), omega (arith, y, y′, high), omega (arith, y), omega (arith, few-rooms))
 
-      -- 8: the sheet is too wide or too high
-      pub eight-drawn : (r : Drawing) → not fits ≡ true → (r .answer ≡ Refused 8) × (r .plan ≡ noPlan) → Draws r j (drawnAny j)
-      unfolding tested
-      eight-drawn r t q = refuses r j (drawnAny j) 8 (drawn-tested ∙ past-false (test8 p) 8 _ (sym fits-eight ∙ not-true fits t)) q
+      module _ (h : HeldPlan) (n : ℕ) (en : n ≡ length j) (eh : h ≡ heldPlan (planOn w s n)) where
+        -- what is held is the plan by wall numbers
+        held-is : h ≡ heldPlan p
+        held-is =
+            eh
+            ∙ ap heldPlan (ap (λ (m : ℕ). planOn w s m) en
+            ∙ ap (λ (q : Sheet). planOn w q (length j)) es
+            ∙ ap (λ (x : Walls). planOn x (sheetOf x) (length j)) ew
+            ∙ plan-same j (wallsOf j) (at (c .xs)) (at (c .ys)) (c .reads))
 
-      module _ (t : not fits ≡ false) where
-        -- what placing the rooms asks
-        pub placed-asks : (n : ℕ) → n ≡ length j
-            → (s .width ≤ 64) × (1 ≤ s .width) × (s .height ≤ 64) × (1 ≤ s .height) × (n ≤ 60)
-        placed-asks n en =
-            let b : (leb (s .width) 64 && leb (s .height) 64) ≡ true = sym ef ∙ not-false fits t in
-            let x : s .width ≡ sheetOf w .width = ap (λ (q : Sheet). q .width) es in
-            let y : s .height ≡ sheetOf w .height = ap (λ (q : Sheet). q .height) es in (
-              leb-true (s .width) 64 (and-left (leb (s .width) 64) (leb (s .height) 64) b),
-              omega (arith, x),
-              leb-true (s .height) 64 (and-right (leb (s .width) 64) (leb (s .height) 64) b),
-              omega (arith, y),
-              omega (arith, few-rooms),
-            )
+        -- read back, it is that plan
+        back : planIn h ≡ p
+        back = ap planIn held-is ∙ held-back j p (plan-complete j (at (c .xs)) (at (c .ys))) few-rooms
 
-        module _ (h : HeldPlan) (n : ℕ) (en : n ≡ length j) (eh : h ≡ heldPlan (planOn w s n)) where
-          held-is : h ≡ heldPlan p
-          held-is =
-              eh
-              ∙ ap heldPlan (ap (λ (m : ℕ). planOn w s m) en
-              ∙ ap (λ (q : Sheet). planOn w q (length j)) es
-              ∙ ap (λ (x : Walls). planOn x (sheetOf x) (length j)) ew
-              ∙ plan-same j (wallsOf j) (at (c .xs)) (at (c .ys)) (c .reads))
+        module _ (m : ℕ) (em : m ≡ h .rooms) (b : Bool) (eb : b ≡ drawable j (planFrom (h .width) (h .height) (m + 4) (h .rects))) where
+          -- the plan that is tested, by its number of rooms, is the held one
+          whole : planFrom (h .width) (h .height) (m + 4) (h .rects) ≡ planIn h
+          unfolding planIn
+          whole = rw em
 
-          back : planIn h ≡ p
-          back = ap planIn held-is ∙ held-back j p (plan-complete j (at (c .xs)) (at (c .ys))) few-rooms
+          -- what is answered is the drawing test of the plan by wall numbers
+          draws : b ≡ drawable j p
+          draws = eb ∙ ap (drawable j) (whole ∙ back)
 
-          module _ (m : ℕ) (em : m ≡ h .rooms) (b : Bool) (eb : b ≡ drawable j (planFrom (h .width) (h .height) (m + 4) (h .rects))) where
-            whole : planFrom (h .width) (h .height) (m + 4) (h .rects) ≡ planIn h
-            unfolding planIn
-            whole = rw em
+          -- 9: the drawing test fails
+          pub nine-drawn : (r : Drawing) → not b ≡ true → (r .answer ≡ Refused 9) × (r .plan ≡ noPlan) → Draws r j (drawnAny j)
+          unfolding tested
+          nine-drawn r f q = refuses r j (drawnAny j) 9
+              (drawn-tested ∙ past-false (drawable j p) 9 _ (sym draws ∙ not-true b f)) q
 
-            draws : b ≡ drawable j p
-            draws = eb ∙ ap (drawable j) (whole ∙ back)
-
-            -- 9: the drawing test fails
-            pub nine-drawn : (r : Drawing) → not b ≡ true → (r .answer ≡ Refused 9) × (r .plan ≡ noPlan) → Draws r j (drawnAny j)
-            unfolding tested
-            nine-drawn r f q = refuses r j (drawnAny j) 9
-                (drawn-tested ∙ past-true (test8 p) 8 _ (sym fits-eight ∙ not-false fits t) ∙ past-false (drawable j p) 9 _ (sym draws ∙ not-true b f)) q
-
-            -- the plan is held
-            pub all-drawn : not b ≡ false → Draws (record { answer = Drawn; plan = h }) j (drawnAny j)
-            unfolding tested said kept
-            all-drawn f =
-                let e : drawnAny j ≡ held j p
-                = drawn-tested ∙ past-true (test8 p) 8 _ (sym fits-eight ∙ not-false fits t) ∙ past-true (drawable j p) 9 _ (sym draws ∙ not-false b f) in
-                record { says = rw (e, back); keeps = rw e held-is }
+          -- the plan is held
+          pub all-drawn : not b ≡ false → Draws (record { answer = Drawn; plan = h }) j (drawnAny j)
+          unfolding tested said kept
+          all-drawn f =
+              let e : drawnAny j ≡ held j p
+              = drawn-tested ∙ past-true (drawable j p) 9 _ (sym draws ∙ not-false b f) in
+              record { says = rw (e, back); keeps = rw e held-is }
 
 -- held stars are as many as the job has
 pub stars-many : (n : ℕ) (ends nbr kind : List ℕ) → n ≡ length (jobIn n ends nbr kind)

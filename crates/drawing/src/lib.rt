@@ -1,4 +1,4 @@
-// Plans: rectangles by wall numbers, the drawing test, tests 7 to 9 of held stars, and a plan's bytes.
+// Plans: rectangles by wall numbers, the drawing test, tests 7 and 9 of held stars, and a plan's bytes.
 ghost use mathlib.Core.Path.{_≡_};
 ghost use Prim.Native.Nat.{_+_, _<_};
 ghost use lib.ListN.{getD, replicate};
@@ -35,7 +35,7 @@ pub struct Plan {
     pub rects: [u16; 256],
 }
 
-// What tests 7 to 9 answer: the job is drawn, or the number of the first that fails.
+// What tests 7 and 9 answer: the job is drawn, or the number of the first that fails.
 pub enum Answer {
     Drawn,
     Refused(u8),
@@ -112,7 +112,7 @@ fn drawable<'a>(
     order::all_ordered(rects, many, ends, nbr, kind, count)
 }
 
-// Held stars numbered and drawn: tests 7, 8 and 9.
+// Held stars numbered and drawn: tests 7 and 9.
 pub fn draw<'a>(ends: &'a [u16], nbr: &'a [u16], kind: &'a [u8], count: usize) -> Drawing
     ensures { λ r. ⌜ Draws r (jobIn count (now (ends .entry)) (now (nbr .entry)) (now (kind .entry)))
         (drawnAny (jobIn count (now (ends .entry)) (now (nbr .entry)) (now (kind .entry)))) ⌝ }
@@ -127,9 +127,6 @@ pub fn draw<'a>(ends: &'a [u16], nbr: &'a [u16], kind: &'a [u8], count: usize) -
     let xs = uprights.0;
     let ys = levels.0;
     let sheet = walls::sheet_at(&xs, &ys);
-    if !walls::sheet_fits(sheet) {
-        return refused(8);
-    }
     let plan = place::plan_of(&xs, &ys, sheet, count);
     let many = fields::wide(plan.rooms) + 4;
     if !drawable(

@@ -10,22 +10,23 @@ use borrow.Author.Tests.{ne-eqb}
 use Rattle.floor.specs.Lists.Laws.{same-test}
 use Rattle.floor.specs.Fields.{Bytes}
 use Rattle.floor.specs.Jobs.{Job, Vertex, Labelling, writeJob}
-use Rattle.floor.specs.Jobs.Facts.{labelling-passes}
+use Rattle.floor.specs.Jobs.Facts.{labelling-passes, Passes}
 use Rattle.floor.specs.Walls.{Circle, upright, level, rules, at, jobNumbers}
-use Rattle.floor.specs.Plans.{Plan, rectOf, share, planOf, joined, refused, held, test8, drawn, Numbered}
-use Rattle.floor.specs.Plans.Held.{seven, nine, width-bound, height-bound}
+use Rattle.floor.specs.Plans.{Plan, rectOf, share, planOf, joined, refused, held, drawn, Numbered}
+use Rattle.floor.specs.Plans.Held.{seven, nine, held-bound}
 use Rattle.floor.specs.Floor.{Shares, Joined, Floor}
 use Rattle.floor.specs.Floor.Joins.{joined-of, of-joined}
 use Rattle.floor.specs.Floor.Draws.{shares-of, of-shares}
 use Rattle.floor.specs.Turns.{turn, Kept, Turnable, turnedBy}
 use Rattle.floor.specs.Turns.Restore.{turned-keeps}
-use Rattle.floor.specs.Calls.{load, Board, empty, holding, Call, loads, turns, refusal, done, lent, sharing, step, run, Accepted, Answers, Left, Restored, Turned}
+use Rattle.floor.specs.Calls.{load, Board, empty, holding, Call, loads, turns, refusal, done, lent, sharing, step, run, Accepted, Answers, Left, Restored, WellHeld, ofLoad}
+use Rattle.floor.specs.Calls.{Turned}
 use Rattle.floor.specs.Calls.Sound.{Sound, some-room, sound-good, any-calls-sound}
 use Rattle.floor.specs.Calls.Effects.{refused-leaves, write-load, load-write, turn-turn}
 use Rattle.floor.specs.Calls.Exact.{drawn-numbered, accepted, load-answers, turned-exactly}
 
 -- DEMAND 1. Every job, however damaged or contradictory, gets an answer: a plan or one numbered refusal.
-pub every-job-answered : (bs : List ℕ) → Answers 1 9 (load bs)
+pub every-job-answered : (bs : List ℕ) → Answers ofLoad (load bs)
 every-job-answered = load-answers
 
 -- A refusal leaves the held plan and the caller's buffers untouched.
@@ -53,24 +54,24 @@ written-and-read cs j p h b = write-load b j p (any-calls-sound cs j p h)
 pub read-and-written : (bs : List ℕ) (j : Job) (p : Plan) → Bytes bs → load bs ≡ held j p → writeJob j ≡ bs
 read-and-written = load-write
 
--- DEMAND 3. Start from an empty board and make any calls. Whenever a plan is held, it is a floor plan for the job now held: each cell in exactly one
--- rectangle, no point in four, two share a wall exactly if joined, neighbours in the order held.
+-- DEMAND 3. Start from an empty board and make any calls. Whenever a plan is held, it is a floor plan for the job now held, its rectangles carry the wall
+-- numbers of that very job, and its sheet is never wider or higher than the number of rooms plus 2: of every accepted job and every turned plan.
+pub any-calls-held : (cs : List Call) (j : Job) (p : Plan) → run empty cs ≡ holding j p → WellHeld j p
+any-calls-held cs j p h =
+    let s : Sound j p = any-calls-sound cs j p h in
+    record { floor = sound-good j p s .floor; numbers = drawn-numbered j (s .passes) p (s .is-drawn); bound = held-bound j (s .passes) p (s .is-drawn) }
+
+-- Each cell lies in exactly one rectangle, no point in four, two share a wall exactly if joined, and neighbours stand in the order held.
 pub any-calls-floor : (cs : List Call) (j : Job) (p : Plan) → run empty cs ≡ holding j p → Floor j p
-any-calls-floor cs j p h = sound-good j p (any-calls-sound cs j p h) .floor
+any-calls-floor cs j p h = any-calls-held cs j p h .floor
 
 -- Its rectangles carry the wall numbers of that very job.
 pub any-calls-numbers : (cs : List Call) (j : Job) (p : Plan) → run empty cs ≡ holding j p → Numbered j p
-any-calls-numbers cs j p h = let s : Sound j p = any-calls-sound cs j p h in drawn-numbered j (s .passes) p (s .is-drawn)
+any-calls-numbers cs j p h = any-calls-held cs j p h .numbers
 
--- The sheet is never wider or higher than the number of rooms plus 2.
+-- And the sheet, of every accepted job and turned plan, is never wider or higher than the number of rooms plus 2.
 pub any-calls-bound : (cs : List Call) (j : Job) (p : Plan) → run empty cs ≡ holding j p → (p .width ≤ length j + 2) × (p .height ≤ length j + 2)
-any-calls-bound cs j p h =
-    let s : Sound j p = any-calls-sound cs j p h in
-    let n : Numbered j p = drawn-numbered j (s .passes) p (s .is-drawn) in
-    rw (n .is-plan) (
-      width-bound j (s .passes) (n .xs) (n .ys) (n .are-upright) (n .are-level),
-      height-bound j (s .passes) (n .xs) (n .ys) (n .are-upright) (n .are-level),
-    )
+any-calls-bound cs j p h = any-calls-held cs j p h .bound
 
 -- Asked whether two vertices share a wall, it says yes exactly if the job joins them or they are neighbouring sides of the frame.
 pub any-calls-share : (cs : List Call) (j : Job) (p : Plan) → run empty cs ≡ holding j p
@@ -89,7 +90,7 @@ any-calls-share cs j p h u v hu hv ne = rw (ne-eqb u v ne) (same-test (share (re
 
 -- A job that has passed every earlier test is refused as undrawable exactly when its numbered rectangles break one of these.
 pub undrawable-exactly : (j : Job) → Labelling j → 0 < length j → (f g : List ℕ) → jobNumbers upright j ≡ some f → jobNumbers level j ≡ some g
-    → test8 (planOf j (at f) (at g)) ≡ true → (drawn j ≡ refused 9) ↔ (Floor j (planOf j (at f) (at g)) → ⊥)
+    → (drawn j ≡ refused 9) ↔ (Floor j (planOf j (at f) (at g)) → ⊥)
 undrawable-exactly j l h = nine j (labelling-passes j l) h
 
 -- A turned labelling passes tests 4 to 6, has as many rooms and pairs, and joins the same pairs;
@@ -98,7 +99,7 @@ turned-labelling cs j p h u v t = let s : Sound j p = any-calls-sound cs j p h i
 
 -- so it too, numbered, is refused as undrawable exactly when its rectangles break one of these, read with its own contacts and its own order.
 pub turned-undrawable-exactly : (cs : List Call) (j : Job) (p : Plan) → run empty cs ≡ holding j p → (u v : ℕ) (t : Turnable j u v)
-    → (f g : List ℕ) → jobNumbers upright (turnedBy t) ≡ some f → jobNumbers level (turnedBy t) ≡ some g → test8 (planOf (turnedBy t) (at f) (at g)) ≡ true
+    → (f g : List ℕ) → jobNumbers upright (turnedBy t) ≡ some f → jobNumbers level (turnedBy t) ≡ some g
     → (drawn (turnedBy t) ≡ refused 9) ↔ (Floor (turnedBy t) (planOf (turnedBy t) (at f) (at g)) → ⊥)
 turned-undrawable-exactly cs j p h u v t =
     let k : Kept j (turnedBy t) = turned-labelling cs j p h u v t in

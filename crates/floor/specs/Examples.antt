@@ -12,7 +12,7 @@ use Rattle.floor.specs.Jobs.{entryOk, test4, starOk, test5, test6, entri
 use Rattle.floor.specs.Jobs.{firstSix, starBytes, writeStars, writeJob}
 use Rattle.floor.specs.Walls.{entryRules, starRules, rulesFrom, raise, relax1, relax, meets, over, passes, numbersOf, jobNumbers}
 use Rattle.floor.specs.Plans.{Rect, rectOf, roomRect, planOf, inside, overlap, abut, apart, area, share, corner, nextSide, joined, sharesJoined}
-use Rattle.floor.specs.Plans.{follows, inOrder, drawable, past, test8, tested, planned, drawn, drawRead, rectBytes, writeRects, writePlan}
+use Rattle.floor.specs.Plans.{follows, inOrder, drawable, past, tested, planned, drawn, drawRead, rectBytes, writeRects, writePlan}
 use Rattle.floor.specs.Turns.{turnedKind, withKind, rekinded, turned, turningAt, turningFrom, inContact, turning, turn}
 use Rattle.floor.specs.Calls.{Board, empty, holding, Call, loads, turns, rectangle, shares, writesJob, writesPlan, Reply, refusal, done, spans, says}
 use Rattle.floor.specs.Calls.{wrote, Step, load, refuse, after, asks, writes, sharing, step, run}
@@ -236,6 +236,6 @@ unfolding rowStar row p1 p5 p6 p7 jobF p10 floorP1 floorP5 floorF turnedF planP1
     test5 test6 entries starThen readStars readRest readRooms readFirst readJob passing firstSix starBytes writeStars writeJob entryRules starRules
     rulesFrom raise relax1
     relax meets over passes numbersOf jobNumbers rectOf roomRect planOf inside overlap abut apart area share corner nextSide joined sharesJoined follows
-    inOrder drawable past test8 tested planned drawn rectBytes writeRects writePlan turnedKind withKind rekinded turned turningAt turningFrom turning inContact turn
+    inOrder drawable past tested planned drawn rectBytes writeRects writePlan turnedKind withKind rekinded turned turningAt turningFrom turning inContact turn
     drawRead load refuse after asks writes sharing step run
 examples = refl

@@ -7,17 +7,18 @@ use native.Mathlib.Omega.{arith}
 use borrow.Author.Tests.{le-leb}
 use lib.Dec.{leb}
 use lib.ListN.{length, length-append}
+use Rattle.floor.specs.Lists.{all}
 use Rattle.floor.specs.Jobs.{Job, isRoom, Reading, fails, reads, readJob, writeJob, rawStar}
 use Rattle.floor.specs.Jobs.Facts.{is-room, room-is}
 use Rattle.floor.specs.Jobs.Raw.{Stretch, raw-star, raw-fails, raw-no-room}
 use Rattle.floor.specs.Plans.{Plan, Answer, refused, held, writePlan}
 use Rattle.floor.specs.Turns.{turn}
-use Rattle.floor.specs.Calls.{load, Board, empty, holding, turns, writesJob, writesPlan, refusal, wrote, refuse, after, writes, step, Answers}
+use Rattle.floor.specs.Calls.{load, Board, empty, holding, turns, writesJob, writesPlan, refusal, wrote, refuse, after, writes, step, Answers, ofLoad, ofTurn}
 use Rattle.floor.specs.Calls.Sound.{Sound, load-held, turn-held}
 use Rattle.floor.specs.Calls.Bytes.{job-length-most, plan-length-most}
 use Rattle.floor.specs.Calls.Exact.{load-answers, turn-answers}
 use Rattle.floor.specs.Tracker.{behind, then, planOfJob, turnedOfJob, starOfJob}
-use Rattle.tirunoiwa.proofs.Numbers.{same-refusal}
+use Rattle.tirunoiwa.proofs.Numbers.{same-refusal, among}
 
 -- what fits is written
 fits-written : (b : Board) (bs buf : List ℕ) (k : ℕ) → length bs ≤ length buf → writes b (leb (length bs) (length buf)) bs buf .reply ≡ refusal k → ⊥
@@ -30,24 +31,24 @@ fits-written b bs buf k h e =
     no-refusal e = let z : _≡_ {A = ℕ} 0 1 = cc in omega arith
 
 -- behind a load or a turn, 14 is given by the writing alone
-plan-behind : (x : Answer) (buf : List ℕ) → Answers 1 9 x → ((j : Job) (p : Plan) → x ≡ held j p → length (writePlan p) ≤ length buf)
+plan-behind : (x : Answer) (buf : List ℕ) → Answers ofLoad x → ((j : Job) (p : Plan) → x ≡ held j p → length (writePlan p) ≤ length buf)
     → then (after empty x) (writesPlan buf) .reply ≡ refusal 14 → ⊥
 unfolding then behind after refuse step
-plan-behind (refused k) buf n s e = omega (arith, n .1, same-refusal e)
+plan-behind (refused k) buf n s e = omega (arith, among 13 ofLoad k (unfold all in refl) n .1, same-refusal e)
 plan-behind (held j p) buf n s e = fits-written (holding j p) (writePlan p) buf 14 (s j p refl) e
 
 -- behind a turn, the writing of a job that fits the buffer is not refused with 14
-job-behind : (b : Board) (x : Answer) (buf : List ℕ) → Answers 7 12 x → ((j : Job) (p : Plan) → x ≡ held j p → length (writeJob j) ≤ length buf)
+job-behind : (b : Board) (x : Answer) (buf : List ℕ) → Answers ofTurn x → ((j : Job) (p : Plan) → x ≡ held j p → length (writeJob j) ≤ length buf)
     → then (after b x) (writesJob buf) .reply ≡ refusal 14 → ⊥
 unfolding then behind after refuse step
-job-behind b (refused k) buf n s e = omega (arith, n .1, same-refusal e)
+job-behind b (refused k) buf n s e = omega (arith, among 13 ofTurn k (unfold all in refl) n .1, same-refusal e)
 job-behind b (held j p) buf n s e = fits-written (holding j p) (writeJob j) buf 14 (s j p refl) e
 
 -- behind a load and a turn, the writing of the job to 904 bytes is not refused with 14
-turned-behind : (x : Answer) (u v : ℕ) (buf : List ℕ) → Answers 1 9 x → ((j : Job) (p : Plan) → x ≡ held j p → Sound j p) → 904 ≤ length buf
+turned-behind : (x : Answer) (u v : ℕ) (buf : List ℕ) → Answers ofLoad x → ((j : Job) (p : Plan) → x ≡ held j p → Sound j p) → 904 ≤ length buf
     → then (then (after empty x) (turns u v)) (writesJob buf) .reply ≡ refusal 14 → ⊥
 unfolding then behind after refuse step
-turned-behind (refused k) u v buf n s h e = omega (arith, n .1, same-refusal e)
+turned-behind (refused k) u v buf n s h e = omega (arith, among 13 ofLoad k (unfold all in refl) n .1, same-refusal e)
 turned-behind (held j p) u v buf n s h e =
     job-behind (holding j p) (turn j u v) buf (turn-answers j u v) (λ i q f. omega (arith, job-length-most i q (turn-held j p u v i q (s j p refl) f))) e
 

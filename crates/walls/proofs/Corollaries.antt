@@ -16,8 +16,8 @@ use Rattle.floor.specs.Jobs.Facts.{Passes}
 use Rattle.floor.specs.Walls.{Axis, upright, level, low, high, at, Respects, Circle, rules, jobNumbers, Numbers as TheNumbers}
 use Rattle.floor.specs.Walls.Walk.{Positive, numbers-respects}
 use Rattle.floor.specs.Walls.Relax.{Right}
-use Rattle.floor.specs.Walls.Rules.{Named, to-vertex, jobNumbers-right, job-bound, numbers-least}
-use Rattle.floor.specs.Plans.{planOf, test8, drawn, refused}
+use Rattle.floor.specs.Walls.Rules.{Named, to-vertex, jobNumbers-right, job-bound, numbers-are, numbers-least}
+use Rattle.floor.specs.Plans.{drawn, refused}
 use Rattle.floor.specs.Plans.Held.{seven}
 use Rattle.walls.specs.declared.Answer.{Answer}
 use Rattle.walls.specs.declared.Answer.the-variants.{Numbered, Circle as Round}
@@ -63,6 +63,10 @@ pub record Counted (j : Job) (w : Walls) : Type 0 where
   pub named : Named j
   pub reads : Reads w (length j + 4) (at xs) (at ys)
 
+-- no numbers are not some
+nothing : {f : List ℕ} → none ≡ some f → ⊥
+nothing e = let z : _≡_ {A = ℕ} 0 1 = cc in omega arith
+
 module _ (j : Job) where
   -- where the test says that every neighbour is a vertex of the job, every neighbour is
   vertices-named : vertices j ≡ true → Named j
@@ -78,14 +82,21 @@ module _ (j : Job) where
   unfolding numbersIn
   sides-numbered a f e = go (test2 (length j)) refl (vertices j) refl e
     where
-      nothing : none ≡ some f → ⊥
-      nothing e = let z : _≡_ {A = ℕ} 0 1 = cc in omega arith
-
       go : (b : Bool) → test2 (length j) ≡ b → (c : Bool) → vertices j ≡ c → cond (b && c) (jobNumbers a j) none ≡ some f
           → (test2 (length j) ≡ true) × (vertices j ≡ true) × (length f ≡ 2 * (length j + 4))
       go false x c y q = absurd (nothing q)
       go true x false y q = absurd (nothing q)
       go true x true y q = (x, y, subst (Right (rules a j) (2 * (length j + 4))) q (jobNumbers-right a j (vertices-named y)) .1)
+
+  -- none of them is above the number of rooms plus 1
+  most-numbered : (a : Axis) (f : List ℕ) → numbersIn a j ≡ some f → (s : ℕ) → at f s ≤ 1 + length j
+  unfolding numbersIn
+  most-numbered a f e s = go (test2 (length j)) (vertices j) refl e
+    where
+      go : (b c : Bool) → vertices j ≡ c → cond (b && c) (jobNumbers a j) none ≡ some f → at f s ≤ 1 + length j
+      go false c y q = absurd (nothing q)
+      go true false y q = absurd (nothing q)
+      go true true y q = job-bound a j (vertices-named y) (at f) (numbers-are a j (vertices-named y) f q) s
 
   -- numbers of every side, with noughts behind them, are read at each side as they are
   at-place : (u : List ℕ) → length u ≡ 2 * (length j + 4) → (s : ℕ) → s < 2 * (length j + 4) → getD (placed u) s 0 ≡ at u s
@@ -120,6 +131,13 @@ module _ (j : Job) where
               sheet = rw (at-place u x (low 3) (omega arith), at-place v y (low 0) (omega arith));
             };
           }
+
+  -- A SHEET IS NEVER WIDER OR HIGHER than the number of rooms plus 2, whatever the stars
+  pub sheet-bound : (c : Counted j (wallsOf j)) → (sheetOf (wallsOf j) .width ≤ length j + 2) × (sheetOf (wallsOf j) .height ≤ length j + 2)
+  sheet-bound c =
+      let w : sheetOf (wallsOf j) .width ≡ at (c .xs) (low 3) + 1 = ap (λ (s : Sheet). s .width) (c .reads .sheet) in
+      let h : sheetOf (wallsOf j) .height ≡ at (c .ys) (low 0) + 1 = ap (λ (s : Sheet). s .height) (c .reads .sheet) in
+      (omega (arith, most-numbered upright (c .xs) (c .is-upright) (low 3)), omega (arith, most-numbered level (c .ys) (c .is-level) (low 0)))
 
   -- WALLS IN A CIRCLE: a direction has no numbers
   pub circled : wallsOf j .answer ≡ Round → (numbersIn upright j ≡ none) ⊎ (numbersIn level j ≡ none)
@@ -205,9 +223,3 @@ module _ (j : Job) (rooms : test2 (length j) ≡ true) (ok : Passes j) where
         most-upright = job-bound upright j (to-vertex j ok) (at (c .xs)) (x .0);
         most-level = job-bound level j (to-vertex j ok) (at (c .ys)) (y .0);
       }
-
--- `sheet_fits` is test 8 of the plan by these numbers
-pub sheet-fits-test8 : (j : Job) (f g : ℕ → ℕ) (w : Walls) (n : ℕ) → Reads w n f g
-    → test8 (planOf j f g) ≡ (leb (sheetOf w .width) 64 && leb (sheetOf w .height) 64)
-unfolding test8 planOf
-sheet-fits-test8 j f g w n r = ap (λ (s : Sheet). leb (s .width) 64 && leb (s .height) 64) (sym (r .sheet))

@@ -1,11 +1,8 @@
--- The walls read side by side, the sheet, and test 8. Assumes nothing.
+-- The walls read side by side, and the sheet. Assumes nothing.
 use mathlib.Core.Path.{_≡_, sym}
-use mathlib.Core.Bool.{false, _&&_}
 use mathlib.Core.List.{List}
-use Prim.Native.Nat.{ℕ, _+_, _*_, _≤_, _<_}
+use Prim.Native.Nat.{ℕ, _+_, _*_, _≤_}
 use native.Mathlib.Omega.{arith}
-use borrow.Author.Tests.{le-leb, lt-leb}
-use lib.Dec.{leb}
 use lib.ListN.{length, getD, List·getD-eq-default}
 use Rattle.walls.specs.declared.Sides.{Sides}
 use Rattle.walls.specs.declared.Sheet.{Sheet}
@@ -29,9 +26,3 @@ four-sides xs ys v x y z u a b c d = let e : 2 * v + 0 ≡ 2 * v = omega arith i
 pub the-sheet : (xs ys : List ℕ) (e n : Sides) (x y : ℕ) → e ≡ sidesAt xs ys 3 → n ≡ sidesAt xs ys 0 → x ≡ e .left .0 → y ≡ n .lower .0
     → _≡_ {A = Sheet} (record { width = x + 1; height = y + 1 }) (sheetAt xs ys)
 the-sheet xs ys e n x y p q a b = rw (a, b, p, q)
-
-pub too-wide : (w h : ℕ) → 64 < w → false ≡ (leb w 64 && leb h 64)
-too-wide w h l = rw (lt-leb w 64 l)
-
-pub as-high : (w h : ℕ) → w ≤ 64 → leb h 64 ≡ (leb w 64 && leb h 64)
-as-high w h l = rw (le-leb w 64 l)

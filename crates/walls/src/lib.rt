@@ -215,13 +215,3 @@ pub fn sheet_at<'a>(xs: &'a [u16], ys: &'a [u16]) -> Sheet
         height: fields::number(y) + 1,
     }
 }
-
-// Test 8: the sheet is no wider and no higher than 64.
-pub fn sheet_fits(sheet: Sheet) -> bool
-    ensures { λ r. ⌜ r ≡ (leb (sheet .width) 64 && leb (sheet .height) 64) ⌝ }
-{
-    if 64 < sheet.width {
-        return false;
-    }
-    sheet.height <= 64
-}

@@ -1,4 +1,4 @@
-//! Jobs that pass tests 1 to 8 and fail one item of the drawing test alone. Chance hardly ever makes one with an overlap and a gap of one
+//! Jobs that pass tests 1 to 7 and fail one item of the drawing test alone. Chance hardly ever makes one with an overlap and a gap of one
 //! size, or with a gap alone, so some of each item are kept here, found by a search. No job can fail "inside the sheet" alone: each
 //! room's walls are numbered between the frame's.
 

@@ -1,11 +1,14 @@
 //! Demand 3 held against the reference itself, cell by cell, so that a comparison with it means something.
 
-use reference::drawing::{share_wall, Plan};
+use reference::drawing::{share_wall, within_bound, Plan};
 use reference::job::{Entry, Job};
 use reference::{ABOVE, BELOW, EAST, LEFT, NORTH, SOUTH, WEST};
 
 /// What is wrong with a held plan, if anything is.
 pub fn plan_fault(job: &Job, plan: &Plan) -> Option<&'static str> {
+    if !within_bound(job, plan) {
+        return Some("the sheet is wider or higher than the number of rooms plus 2");
+    }
     let Some(cells) = painted(plan) else {
         return Some("a cell lies in two rectangles, or a rectangle outside the sheet");
     };

@@ -27,6 +27,9 @@ const CALLS: [(u8, &str); 7] = [
     (STAR, "star"),
 ];
 
+/// The numbers of refusals; 8 is not used.
+const REFUSALS: [u8; 13] = [1, 2, 3, 4, 5, 6, 7, 9, 10, 11, 12, 13, 14];
+
 const ITEMS: [&str; 6] = ["outside", "overlap", "area", "unjoined", "corner", "order"];
 
 impl Table {
@@ -77,7 +80,7 @@ impl Table {
         }
         println!();
         self.row("accepted", Outcome::Accepted);
-        for number in 1..=14 {
+        for number in REFUSALS {
             self.row(&number.to_string(), Outcome::Refused(number));
         }
         self.row("empty", Outcome::Empty);
@@ -110,7 +113,8 @@ impl Table {
         );
         println!("listings: {}", told(&self.listings));
         println!("pictures: {}", told(&self.pictures));
-        let never: Vec<String> = (1..=14u8)
+        let never: Vec<String> = REFUSALS
+            .into_iter()
             .filter(|&number| {
                 CALLS
                     .iter()
@@ -119,7 +123,8 @@ impl Table {
             .map(|number| number.to_string())
             .collect();
         println!("refusals never seen: {}", none_or(&never));
-        let turns: Vec<String> = (7..=9u8)
+        let turns: Vec<String> = [7, 9]
+            .into_iter()
             .filter(|&number| self.of(TURN, Outcome::Refused(number)) == 0)
             .map(|number| number.to_string())
             .collect();

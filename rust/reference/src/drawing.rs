@@ -7,7 +7,6 @@ use crate::{refusal, Refusal, ABOVE, BELOW, EAST, FIRST_ROOM, LEFT, NORTH, SOUTH
 
 const TAG_SHEET: u8 = 3;
 const TAG_RECTANGLE: u8 = 4;
-const LARGEST_SHEET: usize = 64;
 
 #[derive(Clone, Copy, Debug, PartialEq, Eq)]
 pub struct Rectangle {
@@ -42,16 +41,19 @@ impl Faults {
     }
 }
 
-/// Tests 7, 8 and 9 of any stars that have passed the earlier ones.
+/// Tests 7 and 9 of any stars that have passed the earlier ones.
 pub fn draw(job: &Job) -> Result<Plan, Refusal> {
     let plan = place(job, &number_walls(job)?);
-    if plan.width > LARGEST_SHEET || plan.height > LARGEST_SHEET {
-        return Err(refusal::SHEET_TOO_LARGE);
-    }
+    debug_assert!(within_bound(job, &plan), "a sheet past the bound of W1");
     if faults(job, &plan).any() {
         return Err(refusal::UNDRAWABLE);
     }
     Ok(plan)
+}
+
+/// Every wall but the first holds the far side of some room, so no sheet passes the number of rooms plus 2.
+pub fn within_bound(job: &Job, plan: &Plan) -> bool {
+    plan.width.max(plan.height) <= job.stars.len() + 2
 }
 
 /// The rectangles, frame included, of numbered walls.

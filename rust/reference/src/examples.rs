@@ -1,6 +1,6 @@
-//! The floor examples of document 01, and a few facts the document states in words.
+//! The floor examples of document 01, and a few facts the documents state in words.
 
-use crate::drawing::Rectangle;
+use crate::drawing::{within_bound, Rectangle};
 use crate::job::{Entry, Job};
 use crate::{star, Board, Refusal};
 
@@ -179,6 +179,19 @@ fn above_lists_run_from_right_to_left() {
 fn sixty_rooms_in_a_row_and_one_more() {
     assert_eq!(load(&row(60)), Ok((62, 3)));
     assert_eq!(load(&row(61)), Err(Refusal(2)));
+}
+
+/// W1: as wide as the number of rooms plus 2, and never wider, turned or not.
+#[test]
+fn a_sheet_stays_within_the_number_of_rooms_plus_two() {
+    let mut floor = loaded(&bytes(F));
+    floor.turn(5, 6).expect("accepted");
+    for board in [loaded(&bytes(P1)), loaded(&bytes(F)), floor] {
+        assert!(within_bound(board.job().unwrap(), board.plan().unwrap()));
+    }
+    for rooms in 1..=60 {
+        assert_eq!(load(&row(rooms)), Ok((rooms + 2, 3)));
+    }
 }
 
 #[test]

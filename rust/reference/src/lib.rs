@@ -1,7 +1,7 @@
-//! The zone planner a second time, in plain Rust, written from document 01 alone.
+//! The zone planner a second time, in plain Rust, written from documents 01 and 02 alone.
 //!
 //! It shares no code and no idea with the planner under test, so that a slip in one is not repeated in the other.
-//! It aims at being easy to hold against the document, not at speed.
+//! It aims at being easy to hold against the documents, not at speed.
 
 pub mod board;
 pub mod drawing;
@@ -20,7 +20,7 @@ pub use job::star;
 #[derive(Clone, Copy, Debug, PartialEq, Eq, PartialOrd, Ord)]
 pub struct Refusal(pub u8);
 
-/// The fourteen refusals, in the document's order.
+/// The refusals, in the document's order; 8 is not used.
 pub mod refusal {
     use super::Refusal;
 
@@ -31,7 +31,6 @@ pub mod refusal {
     pub const BAD_STAR: Refusal = Refusal(5);
     pub const CONTRADICTION: Refusal = Refusal(6);
     pub const CIRCLE: Refusal = Refusal(7);
-    pub const SHEET_TOO_LARGE: Refusal = Refusal(8);
     pub const UNDRAWABLE: Refusal = Refusal(9);
     pub const NO_PLAN: Refusal = Refusal(10);
     pub const NOT_IN_CONTACT: Refusal = Refusal(11);

@@ -3,7 +3,7 @@
 //! `plan_into`, `turned_into` and `star_into` write to a lent buffer and tell the length: the front is filled, what lies behind stays as it was, and a
 //! refusal leaves every byte. `plan`, `turned` and `star` bring a buffer that always suffices.
 
-/// The number of a refusal, 1 to 14.
+/// The number of a refusal, 1 to 14; 8 is not used.
 #[derive(Clone, Copy, Debug, PartialEq, Eq)]
 pub struct Refusal(pub u8);
 

@@ -12,7 +12,8 @@ use Rattle.floor.specs.Fields.{Bytes, writeField}
 use Rattle.floor.specs.Fields.Laws.{bytes-append, bytes-field, length-field}
 use Rattle.floor.specs.Jobs.{Entry, Star, Job, Vertex, pairsIn, test2, test3, writeJob}
 use Rattle.floor.specs.Jobs.Written.{length-writeJob, bytes-job}
-use Rattle.floor.specs.Plans.{Rect, Plan, nowhere, rectOf, test8, rectBytes, writeRects, writePlan}
+use Rattle.floor.specs.Plans.{Rect, Plan, nowhere, rectOf, rectBytes, writeRects, writePlan}
+use Rattle.floor.specs.Plans.Held.{held-bound}
 use Rattle.floor.specs.Floor.{Inside, GoodPlan}
 use Rattle.floor.specs.Floor.Read.{entry-ok}
 use Rattle.floor.specs.Calls.Sound.{Sound, sound-good}
@@ -49,14 +50,14 @@ rects-bytes (r ∷ rs) h =
     (rects-bytes rs (λ q i. h q (List·Memᴰ·tail i)))
 
 module _ (j : Job) (p : Plan) (s : Sound j p) where
-  -- the limits that were tested
-  limits : (length j ≤ 60) × (pairsIn j ≤ 360) × (p .width ≤ 64) × (p .height ≤ 64)
-  unfolding test2 test3 test8
+  -- the limits that were tested, and the bound of the sheet
+  limits : (length j ≤ 60) × (pairsIn j ≤ 360) × (p .width ≤ length j + 2) × (p .height ≤ length j + 2)
+  unfolding test2 test3
   limits = (
     leb-true (length j) 60 (and-parts (leb 1 (length j)) _ (s .pass2) .1),
     leb-true (pairsIn j) 360 (s .pass3),
-    leb-true (p .width) 64 (and-parts _ _ (s .is-drawn .small) .0),
-    leb-true (p .height) 64 (and-parts (leb (p .width) 64) _ (s .is-drawn .small) .1),
+    held-bound j (s .passes) p (s .is-drawn) .0,
+    held-bound j (s .passes) p (s .is-drawn) .1,
   )
 
   -- the held plan is good for its job
@@ -80,8 +81,11 @@ module _ (j : Job) (p : Plan) (s : Sound j p) where
       let i : Inside p (rectOf p v) = gp .inside v h in (
         omega (arith, gp .floor .complete .vertex v h, limits .0),
         (
-          omega (arith, i .wide, i .in-width, limits .2),
-          (omega (arith, i .tall, i .in-height, limits .3), (omega (arith, i .in-width, limits .2), (omega (arith, i .in-height, limits .3), tt))),
+          omega (arith, i .wide, i .in-width, limits .0, limits .2),
+          (
+            omega (arith, i .tall, i .in-height, limits .0, limits .3),
+            (omega (arith, i .in-width, limits .0, limits .2), (omega (arith, i .in-height, limits .0, limits .3), tt)),
+          ),
         ),
       )
 
@@ -90,7 +94,7 @@ module _ (j : Job) (p : Plan) (s : Sound j p) where
   unfolding writePlan rectOf
   plan-bytes =
       bytes-append (writeField 3 (p .width ∷ p .height ∷ [])) (writeRects (p .rects))
-      (bytes-field 3 (p .width ∷ p .height ∷ []) (omega arith) (omega arith) (omega (arith, limits .2), (omega (arith, limits .3), tt)))
+      (bytes-field 3 (p .width ∷ p .height ∷ []) (omega arith) (omega arith) (omega (arith, limits .0, limits .2), (omega (arith, limits .0, limits .3), tt)))
       (rects-bytes (p .rects) each)
     where
       each : (r : Rect) → List·Memᴰ r (p .rects) → Bytes (rectBytes r)

@@ -9,22 +9,23 @@ use native.Mathlib.Omega.{arith}
 use lib.Dec.{eqb}
 use lib.ListN.{length, getD}
 use borrow.Author.Tests.{le-leb}
+use Rattle.floor.specs.Lists.{any}
 use Rattle.floor.specs.Lists.Laws.{and-both, Apart, apart-at}
 use Rattle.floor.specs.Fields.{Field, broken, field, readField}
-use Rattle.floor.specs.Jobs.{passing, firstSix, Star, Room, starOf, kindOf, Job, opposite, readStars, test2, test3, test4, test5, test6, Reading, fails, SixPassed}
-use Rattle.floor.specs.Jobs.{reads, readRest, readRooms, readFirst, readJob}
+use Rattle.floor.specs.Jobs.{passing, firstSix, Star, Room, starOf, kindOf, Job, opposite, readStars, test2, test3, test4, test5, test6, Reading, fails}
+use Rattle.floor.specs.Jobs.{SixPassed, reads, readRest, readRooms, readFirst, readJob}
 use Rattle.floor.specs.Jobs.Stars.{entry, GoodStar, kindOf-mid, mem-names}
 use Rattle.floor.specs.Jobs.Facts.{room-is, Passes, labelling-passes, passes-of, passing-true}
 use Rattle.floor.specs.Walls.{Numbers, Axis, upright, level, rules, at, jobNumbers}
 use Rattle.floor.specs.Walls.Walk.{unique, numbers-respects}
 use Rattle.floor.specs.Walls.Rules.{numbered, numbers-are, to-vertex}
-use Rattle.floor.specs.Plans.{Plan, planOf, drawable, Answer, refused, held, past, test8, tested, planned, drawn, drawRead, Numbered}
+use Rattle.floor.specs.Plans.{Plan, planOf, drawable, Answer, refused, held, past, tested, planned, drawn, drawRead, Numbered}
 use Rattle.floor.specs.Plans.Held.{Drawn, drawn-held, drawn-again}
 use Rattle.floor.specs.Turns.Swing.{named-front}
 use Rattle.floor.specs.Turns.Ends.{opposite-opposite}
 use Rattle.floor.specs.Turns.Restore.{asked, turned-keeps}
 use Rattle.floor.specs.Turns.{inContact, turn, turning, turningAt, turningFrom, turned, Turnable, turnedBy}
-use Rattle.floor.specs.Calls.{load, Accepted, Answers, Turned}
+use Rattle.floor.specs.Calls.{load, Accepted, Answers, Turned, OneOf, ofLoad, ofTurn}
 use Rattle.floor.specs.Calls.Sound.{Sound, sound-good, load-held, load-six}
 
 -- the text's numbers are the computed ones
@@ -42,7 +43,6 @@ module _ (j : Job) (ok : Passes j) (p : Plan) where
     are-upright = numbers-are upright j (to-vertex j ok) (d .xs) (d .is-upright);
     are-level = numbers-are level j (to-vertex j ok) (d .ys) (d .is-level);
     is-plan = d .is-plan;
-    small = d .small;
     draws = d .draws;
   }
 
@@ -57,7 +57,6 @@ module _ (j : Job) (ok : Passes j) (p : Plan) where
         is-upright = ef;
         is-level = eg;
         is-plan = n .is-plan ∙ ap (λ x. planOf j x (n .ys)) qf ∙ ap (λ y. planOf j (at f) y) qg;
-        small = n .small;
         draws = n .draws;
       }
 
@@ -73,94 +72,87 @@ accepted bs j p = (forth, back)
         let s : SixPassed (readJob bs) j = a .six in
         load-six bs j p s (numbered-drawn j (passes-of j (s .pass4) (s .pass5) (s .pass6)) p (a .is-numbered))
 
--- among more numbers
-wider : (a b c d : ℕ) (r : Answer) → a ≤ c → d ≤ b → Answers c d r → Answers a b r
-wider a b c d (refused k) h i n = (omega (arith, n .0), omega (arith, n .1))
-wider a b c d (held j p) h i n = tt
-
--- a test whose number is among those of the call, put before an answer that keeps to them, keeps to them
-past-answers : (a b : ℕ) (t : Bool) (k : ℕ) (next : Unit {0} → Answer) → a ≤ k → k ≤ b → Answers a b (next tt) → Answers a b (past t k next)
+-- a test that fails gives its number, one of these
+past-answers : (ks : List ℕ) (t : Bool) (k : ℕ) (next : Unit {0} → Answer) → OneOf ks k → Answers ks (next tt) → Answers ks (past t k next)
 unfolding past
-past-answers a b true k next h i n = n
-past-answers a b false k next h i n = (h, i)
+past-answers ks true k next h n = n
+past-answers ks false k next h n = h
 
--- a job numbered and tested gives a plan, or one of the refusals 7 to 9
-drawn-answers : (j : Job) → Answers 7 9 (drawn j)
+-- a labelling numbered and tested is a plan, or 7 or 9
+drawn-answers : (ks : List ℕ) → OneOf ks 7 → OneOf ks 9 → (j : Job) → Answers ks (drawn j)
 unfolding drawn
-drawn-answers j = go (jobNumbers upright j) (jobNumbers level j)
+drawn-answers ks h7 h9 j = go (jobNumbers upright j) (jobNumbers level j)
   where
-    go : (a b : Option (List ℕ)) → Answers 7 9 (planned j a b)
-    go none none = unfold planned in (omega arith, omega arith)
-    go none (some g) = unfold planned in (omega arith, omega arith)
-    go (some f) none = unfold planned in (omega arith, omega arith)
-    go (some f) (some g) = unfold planned tested in past-answers 7 9 (test8 (planOf j (at f) (at g))) 8 _ (omega arith) (omega arith)
-        (past-answers 7 9 (drawable j (planOf j (at f) (at g))) 9 _ (omega arith) (omega arith) tt)
+    go : (a b : Option (List ℕ)) → Answers ks (planned j a b)
+    go none none = unfold planned in h7
+    go none (some g) = unfold planned in h7
+    go (some f) none = unfold planned in h7
+    go (some f) (some g) = unfold planned tested in past-answers ks (drawable j (planOf j (at f) (at g))) 9 _ h9 tt
 
--- what fails, fails by a number from 1 on
-abbrev Fails : ℕ → Reading → Type 0
-Fails most (fails k) = (1 ≤ k) × (k ≤ most)
-Fails most (reads j) = Unit {0}
+-- what fails, fails by one of these numbers
+abbrev Fails : List ℕ → Reading → Type 0
+Fails ks (fails k) = OneOf ks k
+Fails ks (reads j) = Unit {0}
 
--- a job's bytes, read from the first field on, give a job, or fail by 1 or 2
-read-answers : (f : Field) → Fails 2 (readFirst f)
+-- bytes that are no job fail by 1 or 2
+read-answers : (ks : List ℕ) → OneOf ks 1 → OneOf ks 2 → (f : Field) → Fails ks (readFirst f)
 unfolding readFirst
-read-answers broken = (omega arith, omega arith)
-read-answers (field t v rest) = go (eqb t 1 && eqb (length v) 1) (test2 (getD v 0 0)) (getD v 0 0)
+read-answers ks h1 h2 broken = h1
+read-answers ks h1 h2 (field t v rest) = go (eqb t 1 && eqb (length v) 1) (test2 (getD v 0 0)) (getD v 0 0)
   where
-    rest-answers : (o : Option Job) → Fails 2 (readRest o)
-    rest-answers none = unfold readRest in (omega arith, omega arith)
+    rest-answers : (a : Option Job) → Fails ks (readRest a)
+    rest-answers none = unfold readRest in h1
     rest-answers (some j) = unfold readRest in tt
 
-    rooms-answers : (b : Bool) (n : ℕ) → Fails 2 (readRooms b n rest)
+    rooms-answers : (b : Bool) (n : ℕ) → Fails ks (readRooms b n rest)
     rooms-answers true n = unfold readRooms in rest-answers (readStars n rest)
-    rooms-answers false n = unfold readRooms in (omega arith, omega arith)
+    rooms-answers false n = unfold readRooms in h2
 
-    go : (a b : Bool) (n : ℕ) → Fails 2 (cond a (readRooms b n rest) (fails 1))
+    go : (a b : Bool) (n : ℕ) → Fails ks (cond a (readRooms b n rest) (fails 1))
     go true b n = rooms-answers b n
-    go false b n = (omega arith, omega arith)
+    go false b n = h1
 
--- a test whose number is from 1 to 6, before a reading that fails by such a number at most, fails by such a number at most
-passing-fails : (b : Bool) (k : ℕ) (r : Reading) → 1 ≤ k → k ≤ 6 → Fails 6 r → Fails 6 (passing b k r)
+-- a test that fails, fails by its number
+passing-fails : (ks : List ℕ) (b : Bool) (k : ℕ) (r : Reading) → OneOf ks k → Fails ks r → Fails ks (passing b k r)
 unfolding passing
-passing-fails true k r l h f = f
-passing-fails false k r l h f = (l, h)
+passing-fails ks true k r h f = f
+passing-fails ks false k r h f = h
 
--- what fails by 1 or 2 at most fails by 1 to 6 at most when tests 3 to 6 follow
-six-answers : (r : Reading) → Fails 2 r → Fails 6 (firstSix r)
+-- a job that was read passes tests 3 to 6, or fails by one of their numbers
+six-answers : (ks : List ℕ) → OneOf ks 3 → OneOf ks 4 → OneOf ks 5 → OneOf ks 6 → (r : Reading) → Fails ks r → Fails ks (firstSix r)
 unfolding firstSix
-six-answers (fails k) h = (h .0, omega (arith, h .1))
-six-answers (reads j) h =
-    passing-fails (test3 j) 3 _ (omega arith) (omega arith)
-    (passing-fails (test4 j) 4 _ (omega arith) (omega arith)
-    (passing-fails (test5 j) 5 _ (omega arith) (omega arith) (passing-fails (test6 j) 6 (reads j) (omega arith) (omega arith) tt)))
+six-answers ks h3 h4 h5 h6 (fails k) h = h
+six-answers ks h3 h4 h5 h6 (reads j) h =
+    passing-fails ks (test3 j) 3 _ h3 (passing-fails ks (test4 j) 4 _ h4 (passing-fails ks (test5 j) 5 _ h5 (passing-fails ks (test6 j) 6 (reads j) h6 tt)))
 
--- EVERY LOAD ANSWERS: a plan, or one of the refusals 1 to 9
-pub load-answers : (bs : List ℕ) → Answers 1 9 (load bs)
-unfolding load readJob
-load-answers bs = go (firstSix (readJob bs)) (six-answers (readJob bs) (read-answers (readField bs)))
+-- EVERY LOAD ANSWERS: a plan, or one of the refusals of a load
+pub load-answers : (bs : List ℕ) → Answers ofLoad (load bs)
+unfolding load readJob any
+load-answers bs =
+    go (firstSix (readJob bs)) (six-answers ofLoad refl refl refl refl (readJob bs) (read-answers ofLoad refl refl (readField bs)))
   where
-    go : (r : Reading) → Fails 6 r → Answers 1 9 (drawRead r)
-    go (fails k) h = unfold drawRead in (h .0, omega (arith, h .1))
-    go (reads j) h = unfold drawRead in wider 1 9 7 9 (drawn j) (omega arith) (omega arith) (drawn-answers j)
+    go : (r : Reading) → Fails ofLoad r → Answers ofLoad (drawRead r)
+    go (fails k) h = unfold drawRead in h
+    go (reads j) h = unfold drawRead in drawn-answers ofLoad refl refl j
 
--- a test whose number is from 7 to 12, before what is refused by such a number at most, is refused by such a number at most
-passing-answers : (b : Bool) (k : ℕ) (r : Reading) → 7 ≤ k → k ≤ 12 → Answers 7 12 (drawRead r) → Answers 7 12 (drawRead (passing b k r))
+-- a turn that fails a test is refused by its number
+passing-answers : (ks : List ℕ) (b : Bool) (k : ℕ) (r : Reading) → OneOf ks k → Answers ks (drawRead r) → Answers ks (drawRead (passing b k r))
 unfolding passing drawRead
-passing-answers true k r l h a = a
-passing-answers false k r l h a = (l, h)
+passing-answers ks true k r h a = a
+passing-answers ks false k r h a = h
 
--- EVERY TURN of a held plan ANSWERS: a plan, or one of the refusals 7 to 12 (10 is given where no plan is held)
-pub turn-answers : (j : Job) (u v : ℕ) → Answers 7 12 (turn j u v)
-unfolding turn
-turn-answers j u v = unfold turning in passing-answers _ 11 _ (omega arith) (omega arith) (go _ u v _)
+-- EVERY TURN of a held plan ANSWERS: a plan, or one of the refusals of a turn
+pub turn-answers : (j : Job) (u v : ℕ) → Answers ofTurn (turn j u v)
+unfolding turn any
+turn-answers j u v = unfold turning in passing-answers ofTurn _ 11 _ refl (go _ u v _)
   where
-    reads-answers : (i : Job) → Answers 7 12 (drawRead (reads i))
-    reads-answers i = unfold drawRead in wider 7 12 7 9 (drawn i) (omega arith) (omega arith) (drawn-answers i)
+    reads-answers : (i : Job) → Answers ofTurn (drawRead (reads i))
+    reads-answers i = unfold drawRead in drawn-answers ofTurn refl refl i
 
-    at-answers : (a b k : ℕ) → Answers 7 12 (drawRead (turningAt j a b k))
-    at-answers a b k = unfold turningAt in passing-answers _ 12 _ (omega arith) (omega arith) (reads-answers (turned j a b k))
+    at-answers : (a b k : ℕ) → Answers ofTurn (drawRead (turningAt j a b k))
+    at-answers a b k = unfold turningAt in passing-answers ofTurn _ 12 _ refl (reads-answers (turned j a b k))
 
-    go : (c : Bool) (u v k : ℕ) → Answers 7 12 (drawRead (turningFrom c j u v k))
+    go : (c : Bool) (u v k : ℕ) → Answers ofTurn (drawRead (turningFrom c j u v k))
     go true u v k = unfold turningFrom in at-answers u v k
     go false u v k = unfold turningFrom in at-answers v u (opposite k)
 

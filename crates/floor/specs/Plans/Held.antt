@@ -1,4 +1,4 @@
--- Tests 7, 8 and 9 of a labelling: what a held plan came from, and what each of the three refusals means. Assumes nothing.
+-- Tests 7 and 9 of a labelling: what a held plan came from, how large its sheet is, and what each of the two refusals means. Assumes nothing.
 use mathlib.Core.Path.{_≡_, refl, sym, ap, _∙_}
 use mathlib.Core.Logic.{_⊎_, inl, inr, _↔_}
 use mathlib.Core.Bool.{Bool, true, false}
@@ -12,7 +12,7 @@ use Rattle.floor.specs.Jobs.Facts.{Passes}
 use Rattle.floor.specs.Walls.{Numbers, Circle, upright, level, low, rules, at, jobNumbers}
 use Rattle.floor.specs.Walls.Walk.{numbers-respects}
 use Rattle.floor.specs.Walls.Rules.{job-bound, numbers-are, circle-are, to-vertex}
-use Rattle.floor.specs.Plans.{Plan, planOf, drawable, Answer, refused, held, past, test8, tested, planned, drawn}
+use Rattle.floor.specs.Plans.{Plan, planOf, drawable, Answer, refused, held, past, tested, planned, drawn}
 use Rattle.floor.specs.Floor.{Floor, GoodPlan}
 use Rattle.floor.specs.Floor.Tested.{good-drawable, drawable-plan}
 use Rattle.floor.specs.Floor.Ours.{plan-complete, plan-framed, plan-inside, plan-fits}
@@ -48,16 +48,12 @@ pub record Drawn (j : Job) (p : Plan) : Type 0 where
   pub is-upright : jobNumbers upright j ≡ some xs
   pub is-level : jobNumbers level j ≡ some ys
   pub is-plan : p ≡ planOf j (at xs) (at ys)
-  pub small : test8 p ≡ true
   pub draws : drawable j p ≡ true
 
 -- what tests 8 and 9 let pass is the very job and plan, and both tests were passed
-tested-held : (j : Job) (p : Plan) (i : Job) (q : Plan) → tested j p ≡ held i q → (i ≡ j) × (q ≡ p) × (test8 p ≡ true) × (drawable j p ≡ true)
+tested-held : (j : Job) (p : Plan) (i : Job) (q : Plan) → tested j p ≡ held i q → (i ≡ j) × (q ≡ p) × (drawable j p ≡ true)
 unfolding tested
-tested-held j p i q e =
-    let (a, f) = past-held (test8 p) 8 _ e in
-    let (b, g) = past-held (drawable j p) 9 _ f in
-    (same-job g, same-plan g, a, b)
+tested-held j p i q e = let (a, f) = past-held (drawable j p) 9 _ e in (same-job f, same-plan f, a)
   where
     same-job : held j p ≡ held i q → i ≡ j
     same-job e = cc
@@ -75,8 +71,8 @@ drawn-held j i p e = go (jobNumbers upright j) refl (jobNumbers level j) refl e
     go none x (some g) y e = not-held e
     go (some f) x none y e = not-held e
     go (some f) x (some g) y e =
-        let (a, b, c, d) = tested-held j (planOf j (at f) (at g)) i p e in
-        (a, record { xs = f; ys = g; is-upright = x; is-level = y; is-plan = b; small = rw b c; draws = rw b d })
+        let (a, b, c) = tested-held j (planOf j (at f) (at g)) i p e in
+        (a, record { xs = f; ys = g; is-upright = x; is-level = y; is-plan = b; draws = rw b c })
 
 -- a job with its numbers is drawn as they say
 pub drawn-is : (j : Job) (f g : List ℕ) → jobNumbers upright j ≡ some f → jobNumbers level j ≡ some g → drawn j ≡ tested j (planOf j (at f) (at g))
@@ -89,7 +85,6 @@ unfolding tested
 drawn-again j p d =
     drawn-is j (d .xs) (d .ys) (d .is-upright) (d .is-level)
     ∙ ap (tested j) (sym (d .is-plan))
-    ∙ past-true (test8 p) 8 _ (d .small)
     ∙ past-true (drawable j p) 9 _ (d .draws)
 
 module _ (j : Job) (ok : Passes j) where
@@ -99,12 +94,11 @@ module _ (j : Job) (ok : Passes j) where
   seven = (λ e. forth (jobNumbers upright j) refl (jobNumbers level j) refl e, λ c. back (jobNumbers upright j) refl (jobNumbers level j) refl c)
     where
       not-seven : (p : Plan) → tested j p ≡ refused 7 → ⊥
-      not-seven p e = go (test8 p) refl (drawable j p) refl
+      not-seven p e = go (drawable j p) refl
         where
-          go : (a : Bool) → test8 p ≡ a → (b : Bool) → drawable j p ≡ b → ⊥
-          go false x b y = omega (arith, one-number (sym (past-false (test8 p) 8 _ x) ∙ e))
-          go true x false y = omega (arith, one-number (sym (past-true (test8 p) 8 _ x ∙ past-false (drawable j p) 9 _ y) ∙ e))
-          go true x true y = not-held (sym (sym (past-true (test8 p) 8 _ x ∙ past-true (drawable j p) 9 _ y) ∙ e))
+          go : (b : Bool) → drawable j p ≡ b → ⊥
+          go false y = omega (arith, one-number (sym (past-false (drawable j p) 9 _ y) ∙ e))
+          go true y = not-held (sym (sym (past-true (drawable j p) 9 _ y) ∙ e))
 
       forth : (a : Option (List ℕ)) → jobNumbers upright j ≡ a → (b : Option (List ℕ)) → jobNumbers level j ≡ b → planned j a b ≡ refused 7
           → Circle (rules upright j) ⊎ Circle (rules level j)
@@ -161,11 +155,22 @@ module _ (j : Job) (ok : Passes j) where
       go : (p : Plan) → p ≡ planOf j (at (d .xs)) (at (d .ys)) → drawable j p ≡ true → GoodPlan j p
       go p e h = rw e (drawable-good-plan (at (d .xs)) (at (d .ys)) nf ng some-room (rw e at h))
 
-  -- NINE: a numbered labelling on a sheet that passes test 8 is refused as undrawable exactly when its rectangles are no floor plan
-  pub nine : 0 < length j → (f g : List ℕ) → jobNumbers upright j ≡ some f → jobNumbers level j ≡ some g → test8 (planOf j (at f) (at g)) ≡ true
+  -- THE BOUND: no held plan is wider or higher than the number of rooms plus 2
+  pub held-bound : (p : Plan) → Drawn j p → (p .width ≤ length j + 2) × (p .height ≤ length j + 2)
+  held-bound p d =
+      rw (d .is-plan) (width-bound (at (d .xs)) (at (d .ys)) nf ng, height-bound (at (d .xs)) (at (d .ys)) nf ng)
+    where
+      nf : Numbers (rules upright j) (at (d .xs))
+      nf = numbers-are upright j (to-vertex j ok) (d .xs) (d .is-upright)
+
+      ng : Numbers (rules level j) (at (d .ys))
+      ng = numbers-are level j (to-vertex j ok) (d .ys) (d .is-level)
+
+  -- NINE: a numbered labelling is refused as undrawable exactly when its rectangles are no floor plan
+  pub nine : 0 < length j → (f g : List ℕ) → jobNumbers upright j ≡ some f → jobNumbers level j ≡ some g
       → (drawn j ≡ refused 9) ↔ (Floor j (planOf j (at f) (at g)) → ⊥)
   unfolding tested
-  nine some-room f g ef eg t8 = (λ e h. not-held (sym e ∙ is (floor-draws h)), λ h. go h (drawable j q) refl)
+  nine some-room f g ef eg = (λ e h. not-held (sym e ∙ is (floor-draws h)), λ h. go h (drawable j q) refl)
     where
       q : Plan
       q = planOf j (at f) (at g)
@@ -177,8 +182,8 @@ module _ (j : Job) (ok : Passes j) where
       floor-draws = same .1
 
       is : drawable j q ≡ true → drawn j ≡ held j q
-      is d = drawn-is j f g ef eg ∙ past-true (test8 q) 8 _ t8 ∙ past-true (drawable j q) 9 _ d
+      is d = drawn-is j f g ef eg ∙ past-true (drawable j q) 9 _ d
 
       go : (Floor j q → ⊥) → (b : Bool) → drawable j q ≡ b → drawn j ≡ refused 9
       go h true e = absurd (h (same .0 e))
-      go h false e = drawn-is j f g ef eg ∙ past-true (test8 q) 8 _ t8 ∙ past-false (drawable j q) 9 _ e
+      go h false e = drawn-is j f g ef eg ∙ past-false (drawable j q) 9 _ e
