@@ -4,19 +4,19 @@ use mathlib.Core.Path.{_≡_, refl, sym, ap, _∙_}
 use mathlib.Core.Bool.{Bool, true, false, not, _&&_}
 use mathlib.Core.List.{List, []}
 use borrow.Author.Tests.{ne-eqb, eq-eqb, not-true, not-false}
-use lib.Dec.{eqb, leb}
+use lib.Dec.{leb}
 use lib.ListN.{length, getD}
 use Rattle.floor.specs.Jobs.{Job, isVertex, fails, reads, readJob, firstSix, writeJob}
 use Rattle.floor.specs.Jobs.Facts.{six-passed, passes-of}
 use Rattle.floor.specs.Jobs.Written.{read-test2}
-use Rattle.floor.specs.Plans.{Plan, Answer, refused, held, drawn, nowhere, rectOf, share, writePlan, drawRead}
+use Rattle.floor.specs.Plans.{Plan, Answer, refused, held, nowhere, rectOf, share, writePlan, drawRead}
 use Rattle.floor.specs.Calls.{load, Board, empty, holding, loads, turns, rectangle, shares, writesJob, writesPlan, refusal}
-use Rattle.floor.specs.Calls.{Step, refuse, after, asks, writes, sharing, step}
+use Rattle.floor.specs.Calls.{refuse, after, asks, writes, sharing, step}
 use Rattle.fields.specs.declared.Written.{Written}
 use Rattle.fields.specs.declared.Written.the-variants.{Wrote as WroteSo, TooShort}
 use Rattle.fields.specs.Writes.{replied, writing}
 use Rattle.stars.specs.declared.Stars.{Stars}
-use Rattle.stars.specs.Held.{jobIn, jobOf, noStars, toOf, kindOf, heldOf}
+use Rattle.stars.specs.Held.{jobIn, jobOf, noStars, heldOf}
 use Rattle.stars.proofs.Holding.{length-stars, job-stars}
 use Rattle.jobs.specs.declared.Read.{Read}
 use Rattle.jobs.specs.declared.Answer.the-variants.{Passed, Refused as Failed}
@@ -26,11 +26,11 @@ use Rattle.drawing.specs.declared.Answer.the-variants.{Drawn, Refused as Undraw
 use Rattle.drawing.specs.declared.Plan.{Plan as HeldPlan}
 use Rattle.drawing.specs.declared.Drawing.{Drawing}
 use Rattle.drawing.specs.Rects.{rectIn, rectsIn, planFrom, planIn, noPlan, heldPlan, inBytes}
-use Rattle.drawing.specs.Drawn.{drawnAny, said, kept as planKept, Draws}
+use Rattle.drawing.specs.Drawn.{numberedAny, drawnAny, said, kept as planKept, Draws}
 use Rattle.drawing.proofs.Corollaries.{drawn-any, plan-held, rect-held}
 use Rattle.turns.specs.declared.Swing.{Swing}
 use Rattle.turns.specs.declared.Swing.the-variants.{Stops, Swings}
-use Rattle.turns.specs.InPlace.{swings, swingOf, bothPut, swungIn, turnedIn, twoPut, swingSaid}
+use Rattle.turns.specs.InPlace.{swings, swingOf, twoSet, swungIn, turnedIn, twoPut, swingSaid}
 use Rattle.board.specs.declared.Board.{Board as HeldBoard}
 use Rattle.board.specs.declared.Planned.{Planned}
 use Rattle.board.specs.declared.Reply.{Reply as Said}
@@ -109,21 +109,21 @@ module _ (bs : List ℕ) (r : Read) (t : ReadTells r (firstSix (readJob bs))) wh
 pub stays-tells : (r : Handed) (b : HeldBoard) (k : ℕ) (buf : List ℕ) (o : Outcome) → r ≡ stayed b k → Tells (stayed b k) buf o → Tells r buf o
 stays-tells r b k buf o e t = rw e t
 
--- ---- stars drawn and held
+-- ---- stars numbered and held
 
-module _ (b : HeldBoard) (s : Stars) (d : Drawing) (q : Draws d (jobOf s) (drawnAny (jobOf s))) where
+module _ (b : HeldBoard) (s : Stars) (d : Drawing) (x : Answer) (q : Draws d (jobOf s) x) where
   -- stars that are refused leave the very board, with the number of the test
-  pub drawn-not : (k : ℕ) → d .answer ≡ Undrawn k → Tells (stayed b k) [] (newly b s (drawnAny (jobOf s)))
+  pub drawn-not : (k : ℕ) → d .answer ≡ Undrawn k → Tells (stayed b k) [] (newly b s x)
   unfolding said newly staying replyOf
   drawn-not k f =
-      let g : drawnAny (jobOf s) ≡ refused k = sym (rw f at (q .says)) in
+      let g : x ≡ refused k = sym (rw f at (q .says)) in
       rw g (record { reply = refl; board = refl; buffer = refl })
 
-  -- stars that are drawn are held with their plan, and the answer is done
-  pub drawn-so : d .answer ≡ Drawn → Tells (record { board = record { stars = s; plan = d .plan }; reply = Done }) [] (newly b s (drawnAny (jobOf s)))
+  -- stars that have their plan are held with it, and the answer is done
+  pub drawn-so : d .answer ≡ Drawn → Tells (record { board = record { stars = s; plan = d .plan }; reply = Done }) [] (newly b s x)
   unfolding said planKept newly replyOf
   drawn-so f =
-      let g : drawnAny (jobOf s) ≡ held (jobOf s) (planIn (d .plan)) = sym (rw f at (q .says)) in
+      let g : x ≡ held (jobOf s) (planIn (d .plan)) = sym (rw f at (q .says)) in
       let h : d .plan ≡ heldPlan (planIn (d .plan)) = rw g at (q .keeps) in
       rw g (record { reply = refl; board = same (d .plan) (heldPlan (planIn (d .plan))) h; buffer = refl })
     where
@@ -207,38 +207,33 @@ module _ (b : HeldBoard) (n : b .stars .count ≡ 0 → ⊥) where
   unfolding boardOf
   is-holding = rw (ne-eqb (b .stars .count) 0 n)
 
-  -- a contact of the held stars turned in copies of their neighbours and kinds
-  module _ (u v m : ℕ) (em : m ≡ b .stars .count) (r : Swing) (x y : List ℕ)
+  -- a contact of the held stars turned in a copy of their kinds
+  module _ (u v m : ℕ) (em : m ≡ b .stars .count) (r : Swing) (x : List ℕ)
       (t : (swingSaid r ≡ swingOf (jobIn m (b .stars .ends) (b .stars .nbr) (b .stars .kind)) u v)
-      × (x ≡ turnedIn toOf (b .stars .nbr) m (b .stars .ends) (b .stars .nbr) (b .stars .kind) u v)
-      × (y ≡ turnedIn kindOf (b .stars .kind) m (b .stars .ends) (b .stars .nbr) (b .stars .kind) u v)) where
+      × (x ≡ turnedIn m (b .stars .ends) (b .stars .nbr) (b .stars .kind) u v)) where
     -- which contact of the held job turns is what was answered
     so : swingOf job u v ≡ swingSaid r
     so = rw (← job-stars (b .stars) m em) (sym (t .0))
 
     -- a turn that is refused leaves the very board, with its number
-    pub turn-stops : (k : ℕ) → r ≡ Stops k → Tells (record { board = b; reply = Refused k }) [] (outcome b (turns u v))
+    pub turn-stops : (k : ℕ) → r ≡ Stops k → Tells (stayed b k) [] (outcome b (turns u v))
     unfolding outcome turnedTo staying replyOf swingSaid
     turn-stops k e = rw (ne-eqb (b .stars .count) 0 n, so, e) (record { reply = refl; board = refl; buffer = refl })
 
     -- the stars with it turned
     abbrev next : Stars
-    next = record { count = b .stars .count; ends = b .stars .ends; nbr = x; kind = y }
+    next = record { count = b .stars .count; ends = b .stars .ends; nbr = b .stars .nbr; kind = x }
 
     -- they are the held stars with both stars of the contact put where they stand
     are : (a c k : ℕ) → r ≡ Swings a c k → twoPut (b .stars) a c k ≡ next
     unfolding twoPut turnedIn swungIn swingSaid
     are a c k e =
-        let f : swingOf job u v ≡ swings a c k = rw e at so in
-        let g : swingOf (jobIn m (b .stars .ends) (b .stars .nbr) (b .stars .kind)) u v ≡ swings a c k = rw (job-stars (b .stars) m em) f in
-        let p : x ≡ bothPut toOf (b .stars .nbr) (b .stars .ends) (length (b .stars .nbr)) job a c k =
-        rw (← job-stars (b .stars) m em) (rw g at (t .1)) in
-        let q : y ≡ bothPut kindOf (b .stars .kind) (b .stars .ends) (length (b .stars .nbr)) job a c k =
-        rw (← job-stars (b .stars) m em) (rw g at (t .2)) in
-        rw (p, q)
+        let f : swingOf (jobIn m (b .stars .ends) (b .stars .nbr) (b .stars .kind)) u v ≡ swings a c k = rw e at (sym (t .0)) in
+        let q : x ≡ twoSet (b .stars .ends) (b .stars .nbr) (b .stars .kind) a c k = rw f at (t .1) in
+        rw q
 
-    -- where the contact turns, what drawing and holding the turned stars tells is what the call tells
-    pub turn-swings : (a c k : ℕ) → r ≡ Swings a c k → (h : Handed) → Tells h [] (newly b next (drawnAny (jobOf next))) → Tells h [] (outcome b (turns u v))
+    -- where the contact turns, what numbering and holding the turned stars tells is what the call tells
+    pub turn-swings : (a c k : ℕ) → r ≡ Swings a c k → (h : Handed) → Tells h [] (newly b next (numberedAny (jobOf next))) → Tells h [] (outcome b (turns u v))
     unfolding outcome turnedTo swingSaid
     turn-swings a c k e h q =
         let f : swingOf job u v ≡ swings a c k = rw e at so in
@@ -343,7 +338,7 @@ module _ (b : HeldBoard) (n : b .stars .count ≡ 0 → ⊥) (buf x : List ℕ) 
       let f = rw (plan-held (b .plan)) at e in
       rw (ne-eqb (b .stars .count) 0 n) (writes-tells b empty _ (inBytes (writePlan (planIn (b .plan)))) buf x q (eq ∙ f .0) (f .1))
 
--- held stars drawn, as the job that they are
-pub stars-drawn : (s : Stars) (n : ℕ) (r : Drawing) → n ≡ s .count
-    → Draws r (jobIn n (s .ends) (s .nbr) (s .kind)) (drawnAny (jobIn n (s .ends) (s .nbr) (s .kind))) → Draws r (jobOf s) (drawnAny (jobOf s))
-stars-drawn s n r e d = rw (job-stars s n e) at d
+-- held stars numbered or drawn, as the job that they are
+pub stars-drawn : (f : Job → Answer) (s : Stars) (n : ℕ) (r : Drawing) → n ≡ s .count
+    → Draws r (jobIn n (s .ends) (s .nbr) (s .kind)) (f (jobIn n (s .ends) (s .nbr) (s .kind))) → Draws r (jobOf s) (f (jobOf s))
+stars-drawn f s n r e d = rw (job-stars s n e) at d

@@ -1,37 +1,37 @@
 -- The boards that hold a job and plan as the rules leave them: there the outcome of a call is that of the rules. Assumes nothing.
 use Prim.Native.Nat.{ℕ, _≤_}
 use mathlib.Core.Path.{_≡_, refl, sym, ap, _∙_}
-use mathlib.Core.Bool.{Bool, true, false, cond}
-use mathlib.Core.List.{List, []}
+use mathlib.Core.Bool.{Bool, true, false}
+use mathlib.Core.List.{List}
 use native.Mathlib.Omega.{arith}
 use borrow.Author.Tests.{ne-eqb, leb-true}
-use lib.Dec.{eqb, leb}
+use lib.Dec.{leb}
 use lib.ListN.{length}
 use Rattle.floor.specs.Lists.Laws.{and-parts}
-use Rattle.floor.specs.Jobs.{Job, pairsIn, test2, test3, Reading, fails, reads, writeJob}
+use Rattle.floor.specs.Jobs.{Job, pairsIn, test2, test3, reads, writeJob}
 use Rattle.floor.specs.Jobs.Facts.{Passes, labelling-passes, of-passes}
-use Rattle.floor.specs.Plans.{Plan, Answer, refused, held, drawn, drawRead, writePlan}
-use Rattle.floor.specs.Plans.Held.{drawn-held}
+use Rattle.floor.specs.Walls.{at}
+use Rattle.floor.specs.Plans.{Plan, planOf, Answer, refused, held, drawRead, writePlan}
+use Rattle.floor.specs.Floor.Elsewhere.{Ours}
 use Rattle.floor.specs.Turns.{turning, turn, Kept}
 use Rattle.floor.specs.Turns.Restore.{turnable, turned-keeps}
 use Rattle.floor.specs.Calls.{load, Board, empty, holding, Call, loads, turns, rectangle, shares, writesJob, writesPlan, Reply}
-use Rattle.floor.specs.Calls.{Step, refuse, after, asks, writes, step}
+use Rattle.floor.specs.Calls.{refuse, after, asks, writes, step}
 use Rattle.floor.specs.Calls.Sound.{Sound, sound-good, some-room, load-held, turn-held}
+use Rattle.floor.specs.Calls.Always.{reads-numbered, reads-held}
 use Rattle.floor.specs.Calls.Bytes.{plan-bytes}
 use Rattle.fields.specs.Writes.{writing}
-use Rattle.stars.specs.declared.Stars.{Stars}
 use Rattle.stars.specs.Held.{jobOf, noStars, heldOf}
 use Rattle.stars.proofs.Holding.{length-stars}
 use Rattle.stars.proofs.Back.{job-back}
-use Rattle.drawing.specs.Rects.{planIn, heldPlan, inBytes}
-use Rattle.drawing.specs.Drawn.{drawnAny}
-use Rattle.drawing.proofs.Corollaries.{drawn-any, bytes-kept, plan-back as drawn-back}
-use Rattle.turns.specs.Rewrites.{twoTurned}
-use Rattle.turns.specs.InPlace.{Swing, stops, swings, swingOf, turnedJob, twoPut}
+use Rattle.drawing.specs.Rects.{planIn, heldPlan}
+use Rattle.drawing.specs.Drawn.{numberedAny}
+use Rattle.drawing.proofs.Corollaries.{numbered-any, bytes-kept, plan-back as drawn-back}
+use Rattle.turns.specs.InPlace.{Swing, stops, swings, swingOf, twoTurned, turnedJob, twoPut}
 use Rattle.turns.proofs.Placing.{turning-swings}
 use Rattle.turns.proofs.TurnedStars.{held-turned}
 use Rattle.board.specs.declared.Board.{Board as HeldBoard}
-use Rattle.board.specs.Boards.{boardFor, noBoard, boardOf, handed, Outcome, asRules, staying, newly, turnedTo, outcome}
+use Rattle.board.specs.Boards.{boardFor, noBoard, boardOf, handed, asRules, staying, newly, turnedTo, outcome}
 
 -- A BOARD STANDS: nothing is held, or a job and its plan as a load leaves them
 pub data Stands : HeldBoard → Type 0 where
@@ -92,55 +92,51 @@ at-first = refl
 
 -- ---- a turn
 
--- boards with the same stars and the same plan are one
-same-board : (s s′ : Stars) (p : Plan) → s ≡ s′ → _≡_ {A = HeldBoard} (record { stars = s; plan = heldPlan p }) (record { stars = s′; plan = heldPlan p })
-same-board s s′ p e = rw e
-
 -- the very board and a refusal are what the rules hand back of a refusal
 stopped : (b : HeldBoard) (a : Board) (k : ℕ) → staying b k ≡ asRules b (after a (refused k))
 unfolding staying asRules after refuse handed
 stopped b a k = refl
 
--- stars that hold a job, drawn: as the rules say of the job
-newly-rules : (b : HeldBoard) (a : Board) (i : Job) → newly b (heldOf i) (drawn i) ≡ asRules b (after a (drawn i))
-unfolding newly staying asRules after refuse handed boardFor
-newly-rules b a i = go (drawn i) refl
-  where
-    go : (x : Answer) → drawn i ≡ x → newly b (heldOf i) x ≡ asRules b (after a x)
-    go (refused k) e = refl
-    go (held k q) e = let f : k ≡ i = drawn-held i k q e .0 in rw f
+-- stars that hold a job, held with a plan: as the rules say of it
+held-rules : (b : HeldBoard) (a : Board) (i : Job) (q : Plan) → newly b (heldOf i) (held i q) ≡ asRules b (after a (held i q))
+unfolding newly asRules after handed boardFor
+held-rules b a i q = refl
 
 module _ (j : Job) (p : Plan) (s : Sound j p) (u v : ℕ) where
-  -- the turned job, held, is given back, and drawing its stars is drawing it by the rules
-  turned-drawn : (i : Job) → turning j u v ≡ reads i → (jobOf (heldOf i) ≡ i) × (drawnAny i ≡ drawn i)
+  -- a turned job is given back by its stars, and its plan by wall numbers is what the rules hold
+  turned-held : (i : Job) → turning j u v ≡ reads i → (jobOf (heldOf i) ≡ i) × (q : Plan) × (numberedAny i ≡ held i q) × (turn j u v ≡ held i q)
   unfolding test3
-  turned-drawn i h =
+  turned-held i h =
       let (t, e) = turnable j u v (s .passes) i h in
       let k : Kept j i = rw e at (turned-keeps j (s .passes) p (sound-good j p s) t) in
       let t2 : test2 (length i) ≡ true = rw (k .rooms) (s .pass2) in
       let t3 : test3 i ≡ true = rw (k .pairs) (s .pass3) in
       let (a, c) = few-of i t2 t3 in
       let ok : Passes i = labelling-passes i (k .labelling) in
-      (job-back i a c (of-passes i ok .0), drawn-any i t2 ok)
+      let o : Ours i = reads-numbered j p s u v i h in (
+        job-back i a c (of-passes i ok .0),
+        planOf i (at (o .xs)) (at (o .ys)),
+        numbered-any i t2 ok (o .xs) (o .ys) (o .is-upright) (o .is-level),
+        reads-held j p s u v i h (o .xs) (o .ys) (o .is-upright) (o .is-level),
+      )
 
   -- both stars of the contact put where they stand are the turned job, held
   two-held : (a b t : ℕ) → swingOf j u v ≡ swings a b t → twoPut (boardFor j p .stars) a b t ≡ heldOf (twoTurned j a b t)
   unfolding boardFor
-  two-held a b t f = held-turned j (few j p s .0) (few j p s .1) (stars-back j p s) u v a b t f
+  two-held a b t f = held-turned j (few j p s .0) (few j p s .1) (stars-back j p s) (s .passes) u v a b t f
 
   -- turning the contact where it stands does what the rules say of the turn
   turn-rules : turnedTo (boardFor j p) (swingOf j u v) ≡ asRules (boardFor j p) (after (holding j p) (turn j u v))
-  unfolding turnedTo turn drawRead turnedJob
+  unfolding turnedTo turnedJob
   turn-rules = go (swingOf j u v) refl
     where
       go : (x : Swing) → swingOf j u v ≡ x → turnedTo (boardFor j p) x ≡ asRules (boardFor j p) (after (holding j p) (turn j u v))
       go (stops k) f =
-          let e : turning j u v ≡ fails k = turning-swings j u v ∙ ap (turnedJob j) f in
+          let e : turn j u v ≡ refused k = unfold turn drawRead in ap drawRead (turning-swings j u v ∙ ap (turnedJob j) f) in
           rw e (stopped (boardFor j p) (holding j p) k)
       go (swings a b t) f =
-          let e : turning j u v ≡ reads (twoTurned j a b t) = turning-swings j u v ∙ ap (turnedJob j) f in
-          let (back, same) = turned-drawn (twoTurned j a b t) e in
-          rw (e, two-held a b t f, back, same) (newly-rules (boardFor j p) (holding j p) (twoTurned j a b t))
+          let (back, q, is, so) = turned-held (twoTurned j a b t) (turning-swings j u v ∙ ap (turnedJob j) f) in
+          rw (so, two-held a b t f, back, is) (held-rules (boardFor j p) (holding j p) (twoTurned j a b t) q)
 
 -- ---- a plan written
 

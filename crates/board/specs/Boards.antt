@@ -12,7 +12,7 @@ use Rattle.fields.specs.Writes.{writing}
 use Rattle.stars.specs.declared.Stars.{Stars}
 use Rattle.stars.specs.Held.{jobOf, noStars, heldOf}
 use Rattle.drawing.specs.Rects.{rectIn, planIn, inBytes, noPlan, heldPlan}
-use Rattle.drawing.specs.Drawn.{drawnAny, said}
+use Rattle.drawing.specs.Drawn.{numberedAny, said}
 use Rattle.turns.specs.InPlace.{Swing, stops, swings, swingOf, twoPut}
 use Rattle.board.specs.declared.Board.{Board as HeldBoard}
 use Rattle.board.specs.declared.Planned.{Planned}
@@ -77,15 +77,15 @@ staying b k = record { board = b; reply = refusal k; buffer = [] }
 abbrev pub stayed : HeldBoard → ℕ → Handed
 stayed b k = record { board = b; reply = Refused k }
 
--- these stars drawn: held with their plan, or all stays as it was
+-- these stars numbered: held with their plan, or all stays as it was
 unfoldable pub newly : HeldBoard → Stars → Answer → Outcome
 newly b s (refused k) = staying b k
 newly b s (held j p) = record { board = record { stars = s; plan = heldPlan p }; reply = done; buffer = [] }
 
--- a contact turned where it stands, and the stars drawn
+-- a contact turned where it stands, and the stars numbered afresh: the plan of what calls reach needs no test
 unfoldable pub turnedTo : HeldBoard → Swing → Outcome
 turnedTo b (stops k) = staying b k
-turnedTo b (swings u v t) = newly b (twoPut (b .stars) u v t) (drawnAny (jobOf (twoPut (b .stars) u v t)))
+turnedTo b (swings u v t) = newly b (twoPut (b .stars) u v t) (numberedAny (jobOf (twoPut (b .stars) u v t)))
 
 -- ONE CALL ON ANY BOARD, whatever stands in it: of what it holds as the rules say; a contact is turned in the very stars, and of a plan one byte of each
 -- number is written

@@ -4,7 +4,7 @@ ghost use mathlib.Core.List.{[]};
 ghost use Rattle.floor.specs.Calls.{load, loads, turns, rectangle, shares, writesJob, writesPlan};
 ghost use Rattle.drawing.specs.declared.Answer.the-variants.{Refused};
 ghost use Rattle.stars.specs.Held.{jobOf};
-ghost use Rattle.drawing.specs.Drawn.{drawnAny, Draws};
+ghost use Rattle.drawing.specs.Drawn.{numberedAny, drawnAny, Draws};
 ghost use Rattle.board.specs.Boards.{noBoard, Plans, stayed, newly, outcome, Tells};
 use drawing::Drawing;
 use drawing::Plan;
@@ -81,11 +81,12 @@ fn stays(board: Board, k: u8) -> Step
     }
 }
 
-// Stars drawn, and held with their plan; all stays as it was where test 7 or 9 fails.
-fn hold_drawn(kept: Board, next: Stars) -> Step
-    ensures { λ r. ⌜ Tells r [] (newly kept next (drawnAny (jobOf next))) ⌝ }
+// Turned stars numbered afresh, and held with their plan; all stays as it was where test 7 fails.
+fn hold_numbered(kept: Board, next: Stars) -> Step
+    ensures { λ r. ⌜ Tells r [] (newly kept next (numberedAny (jobOf next))) ⌝ }
 {
-    let drawing = draw_stars(next);
+    let count = fields::wide(next.count);
+    let drawing = drawing::plan_stars(&next.ends, &next.nbr, &next.kind, count);
     let fresh = drawing.plan;
     let drawn = drawing.answer;
     match drawn {
@@ -145,7 +146,7 @@ impl Board {
         }
     }
 
-    // A contact turned, its two rooms named in either order: 10, 11, 12, then 7 and 9 of the turned labelling.
+    // A contact turned, its two rooms named in either order: 10, 11, 12. On a board that calls reach the turned plan is always drawn: no test is made of it.
     pub fn turn(self, u: usize, v: usize) -> Step
         ensures { λ r. ⌜ Tells r [] (outcome self (turns u v)) ⌝ }
     {
@@ -153,14 +154,11 @@ impl Board {
             return stays(self, 10);
         }
         let stars = self.stars;
-        let mut nbr = stars.nbr;
         let mut kind = stars.kind;
         let swing = turns::turn_held(
-            &mut nbr,
             &mut kind,
             &stars.ends,
             &stars.nbr,
-            &stars.kind,
             fields::wide(stars.count),
             u,
             v,
@@ -169,13 +167,14 @@ impl Board {
             turns::Swing::Stops(k) => stays(self, k),
             turns::Swing::Swings(_, _, _) => {
                 let ends = stars.ends;
+                let nbr = stars.nbr;
                 let next = Stars {
                     count: stars.count,
                     ends: ends,
                     nbr: nbr,
                     kind: kind,
                 };
-                hold_drawn(self, next)
+                hold_numbered(self, next)
             }
         }
     }

@@ -8,13 +8,14 @@ use borrow.Author.Tests.{eq-eqb, ne-eqb, not-true, not-false}
 use lib.Dec.{eqb}
 use lib.ListN.{length, getD, List·getD-eq-default}
 use Rattle.floor.specs.Lists.{all, pairwise, sum}
-use Rattle.floor.specs.Jobs.{Entry, Star, Job}
-use Rattle.floor.specs.Plans.{Rect, nowhere, area, rectOf, inside, apart, corner, sharesJoined, follows, inOrder, drawable}
-use Rattle.stars.specs.Held.{toAt, entryAt, cells, startOf, endOf, heldStar, starsIn}
-use Rattle.stars.proofs.Holding.{cells-more, cells-done, held-more, held-done}
+use Rattle.floor.specs.Jobs.{Star, changes, Job}
+use Rattle.floor.specs.Plans.{Rect, nowhere, area, rectOf, inside, apart, corner, sharesJoined, follows, inOrder, roundInOrder, drawable}
+use Rattle.stars.specs.Held.{toAt, entryAt, cells, placeAfter, linkAt, linksFrom, startOf, endOf, heldStar, starsIn}
+use Rattle.stars.proofs.Holding.{held-more, held-done}
+use Rattle.stars.proofs.Round.{links-round, links-false, links-next, links-all}
 use Rattle.drawing.specs.declared.Rect.{Rect as HeldRect}
 use Rattle.drawing.specs.Rects.{planFrom, rectIn, rectAt, rectsIn}
-use Rattle.drawing.specs.Tests.{insideSheet, pairOk, ordered, starOrdered}
+use Rattle.drawing.specs.Tests.{insideSheet, pairOk, twoAt, ordered, starOrdered}
 
 -- in which order tests are asked does not matter
 exchange : (a b c d : Bool) → ((a && b) && (c && d)) ≡ ((a && c) && (b && d))
@@ -140,43 +141,32 @@ module _ (l : List ℕ) (n v : ℕ) (w : Bool) where
     unfolding pairwise
     pairs-all inv h = rw (rects-done l n v h) at inv
 
--- entries asked one by one
-module _ (nbr kind : List ℕ) (end k : ℕ) (w : Bool) where
-  module _ (q : Entry → Bool) where
-    module _ (b : Bool) (inv : all q (cells (end - k) k nbr kind) ≡ w) (h : k < end) (g : b ≡ q (entryAt nbr kind k)) where
-      -- where the next fails, not all pass
-      pub entries-false : not b ≡ true → false ≡ w
-      unfolding all
-      entries-false t = rw (cells-more nbr kind end k h, ← g, not-true b t) at inv
+-- once round a star, a place at a time: n is the place behind k
+module _ (rs : List Rect) (nbr kind : List ℕ) (start end k : ℕ) (w : Bool) where
+  module _ (n : ℕ) (b : Bool) (inv : all (ordered rs) (linksFrom start end nbr kind k) ≡ w) (h : k < end) (en : n ≡ placeAfter start end k)
+      (g : b ≡ ordered rs (twoAt nbr kind k n)) where
+    -- the answer is whether the entry at k and the one that follows it stand in order
+    here : b ≡ ordered rs (linkAt start end nbr kind k)
+    unfolding linkAt
+    here = rw (← en) g
 
-      -- where it passes, all pass exactly if those behind it do
-      pub entries-next : not b ≡ false → all q (cells (end - (k + 1)) (k + 1) nbr kind) ≡ w
-      unfolding all
-      entries-next t = rw (cells-more nbr kind end k h, ← g, not-false b t) at inv
+    -- where these two do not stand in order, not all do
+    pub round-false : not b ≡ true → false ≡ w
+    round-false = links-false nbr kind start end k w (ordered rs) b inv h here
 
-    -- behind the last there is nothing left that could fail
-    pub entries-all : all q (cells (end - k) k nbr kind) ≡ w → end ≤ k → true ≡ w
-    unfolding all
-    entries-all inv h = rw (cells-done nbr kind end k h) at inv
+    -- where they do, all do exactly if all from the next place on do
+    pub round-next : not b ≡ false → all (ordered rs) (linksFrom start end nbr kind (k + 1)) ≡ w
+    round-next = links-next nbr kind start end k w (ordered rs) b inv h here
 
-  -- and each with those behind it
-  module _ (q : Entry → Entry → Bool) where
-    module _ (b : Bool) (inv : pairwise q (cells (end - k) k nbr kind) ≡ w) (h : k < end)
-        (g : b ≡ all (q (entryAt nbr kind k)) (cells (end - (k + 1)) (k + 1) nbr kind)) where
-      -- where the next fails with one behind it, not all pairs pass
-      pub part-false : not b ≡ true → false ≡ w
-      unfolding pairwise
-      part-false t = rw (cells-more nbr kind end k h, ← g, not-true b t) at inv
+  -- behind the last place there is nothing left that could fail
+  pub round-all : all (ordered rs) (linksFrom start end nbr kind k) ≡ w → end ≤ k → true ≡ w
+  round-all = links-all nbr kind start end k w (ordered rs)
 
-      -- where it passes with each behind it, all pairs pass exactly if the pairs behind it do
-      pub part-next : not b ≡ false → pairwise q (cells (end - (k + 1)) (k + 1) nbr kind) ≡ w
-      unfolding pairwise
-      part-next t = rw (cells-more nbr kind end k h, ← g, not-false b t) at inv
-
-    -- behind the last there is no pair left that could fail
-    pub part-all : pairwise q (cells (end - k) k nbr kind) ≡ w → end ≤ k → true ≡ w
-    unfolding pairwise
-    part-all inv h = rw (cells-done nbr kind end k h) at inv
+-- the whole star is what is left from its first place on
+pub round-first : (rs : List Rect) (nbr kind : List ℕ) (start end : ℕ)
+    → all (ordered rs) (linksFrom start end nbr kind start) ≡ starOrdered rs (cells (end - start) start nbr kind)
+unfolding starOrdered
+round-first rs nbr kind start end = rw (links-round nbr kind start end)
 
 -- stars asked one by one
 module _ (ends nbr kind : List ℕ) (n i : ℕ) (w : Bool) (q : Star → Bool) where
@@ -219,14 +209,14 @@ fills a b m n x y e f g = rw (e, f, g)
 -- two entries
 module _ (rs : List Rect) (nbr kind : List ℕ) (a b : ℕ) (k m : ℕ) (ek : k ≡ getD kind a 0) (em : m ≡ getD kind b 0) where
   -- of different kinds: they stand in order, wherever their rectangles lie
-  pub order-free : (k ≡ m → ⊥) → true ≡ ordered rs (entryAt nbr kind a) (entryAt nbr kind b)
-  unfolding ordered inOrder entryAt
+  pub order-free : (k ≡ m → ⊥) → true ≡ ordered rs (twoAt nbr kind a b)
+  unfolding ordered inOrder changes entryAt
   order-free h = rw (← ek, ← em, ne-eqb k m h)
 
   -- of one kind: they stand in order exactly if the second's rectangle follows the first's
   pub order-asked : (t : Bool) (x y : ℕ) (r s : HeldRect) → k ≡ m → x ≡ toAt nbr a → rectIn r ≡ getD rs x nowhere → y ≡ toAt nbr b
-      → rectIn s ≡ getD rs y nowhere → t ≡ follows k (rectIn r) (rectIn s) → t ≡ ordered rs (entryAt nbr kind a) (entryAt nbr kind b)
-  unfolding ordered inOrder entryAt rectOf
+      → rectIn s ≡ getD rs y nowhere → t ≡ follows k (rectIn r) (rectIn s) → t ≡ ordered rs (twoAt nbr kind a b)
+  unfolding ordered inOrder changes entryAt rectOf
   order-asked t x y r s h ex er ey es f = rw (← ek, ← em, eq-eqb k m h, ← ex, ← er, ← ey, ← es) f
 
 -- a star as a whole
@@ -252,7 +242,7 @@ module _ (j : Job) (w h many : ℕ) (l : List ℕ) where
       && eqb (sum (map area placed)) (w * h)
       && pairwise (pairOk j) placed
       && all (starOrdered placed) j)
-  unfolding drawable inside insideSheet starOrdered ordered inOrder rectOf
+  unfolding drawable roundInOrder inside insideSheet starOrdered ordered inOrder rectOf
   drawable-is =
       rw (pairs-is j placed)
       (reorder

@@ -1,4 +1,4 @@
--- What follows from the promises of `draw`, `drawable`, `rectangle` and `write_plan`. Assumes nothing.
+-- What follows from the promises of `plan_stars`, `draw`, `drawable`, `rectangle` and `write_plan`. Assumes nothing.
 use Prim.Native.Nat.{ℕ, _+_, _%_, _≤_, _<_}
 use mathlib.Core.Path.{_≡_, refl, sym, ap, _∙_}
 use mathlib.Core.Logic.{_↔_}
@@ -14,7 +14,7 @@ use Rattle.floor.specs.Fields.{Bytes}
 use Rattle.floor.specs.Jobs.{Job, test2}
 use Rattle.floor.specs.Jobs.Facts.{Passes}
 use Rattle.floor.specs.Walls.{Numbers, upright, level, rules, at, jobNumbers}
-use Rattle.floor.specs.Plans.{Rect, nowhere, Plan, rectOf, planOf, drawable, Answer, refused, drawn, writePlan}
+use Rattle.floor.specs.Plans.{Rect, nowhere, Plan, rectOf, planOf, drawable, Answer, refused, held, drawn, writePlan}
 use Rattle.floor.specs.Plans.Held.{one-number, not-held, drawn-held, drawable-is-floor, held-good, nine}
 use Rattle.floor.specs.Floor.{Complete, Floor}
 use Rattle.fields.specs.declared.Written.{Written}
@@ -27,7 +27,7 @@ use Rattle.drawing.specs.declared.Rect.{Rect as HeldRect}
 use Rattle.drawing.specs.declared.Plan.{Plan as HeldPlan}
 use Rattle.drawing.specs.declared.Drawing.{Drawing}
 use Rattle.drawing.specs.Rects.{rectIn, rectsIn, planFrom, planIn, inBytes, heldPlan}
-use Rattle.drawing.specs.Drawn.{drawnAny, said, Draws}
+use Rattle.drawing.specs.Drawn.{byNumbers, numberedAny, drawnAny, said, Draws}
 use Rattle.drawing.proofs.Asking.{length-rects}
 use Rattle.drawing.proofs.Judging.{held-back}
 
@@ -43,7 +43,7 @@ same-answer (Refused k) (Refused l) j p x e f = let n : k ≡ l = one-number (e 
 same-fields : (a b : Said) (p q : HeldPlan) → a ≡ b → p ≡ q → _≡_ {A = Drawing} (record { answer = a; plan = p }) (record { answer = b; plan = q })
 same-fields a b p q e f = rw (e, f)
 
--- THE PROMISE OF `draw` ALLOWS ONE ANSWER AND ONE PLAN
+-- THE PROMISES OF `plan_stars` AND `draw` ALLOW ONE ANSWER AND ONE PLAN
 pub one-drawing : (j : Job) (x : Answer) (r t : Drawing) → Draws r j x → Draws t j x → r ≡ t
 one-drawing j x r t d e =
     let p : r .plan ≡ t .plan = d .keeps ∙ sym (e .keeps) in
@@ -115,6 +115,11 @@ module _ (j : Job) (rooms : test2 (length j) ≡ true) (ok : Passes j) where
   pub drawn-any : drawnAny j ≡ drawn j
   unfolding drawnAny drawn
   drawn-any = rw (by-definition j rooms ok upright, by-definition j rooms ok level)
+
+  -- NUMBERING ANY STARS, where the job has its numbers, gives its plan by them
+  pub numbered-any : (f g : List ℕ) → jobNumbers upright j ≡ some f → jobNumbers level j ≡ some g → numberedAny j ≡ held j (planOf j (at f) (at g))
+  unfolding numberedAny byNumbers
+  numbered-any f g ef eg = rw (by-definition j rooms ok upright, by-definition j rooms ok level, ef, eg)
 
   module _ (r : Drawing) (d : Draws r j (drawnAny j)) where
     -- what is answered is what drawing the job comes to

@@ -2,7 +2,7 @@
 use Prim.Native.Nat.{ℕ, zero, suc, _+_, _*_, _-_, _≤_, _<_}
 use mathlib.Core.Path.{_≡_, refl, sym, ap, _∙_}
 use mathlib.Core.Logic.{_⊎_, inl, inr}
-use mathlib.Core.Bool.{Bool, true, false, not, _&&_}
+use mathlib.Core.Bool.{Bool, true, false, not}
 use mathlib.Core.Option.{Option, none, some}
 use mathlib.Core.List.{List, [], _∷_, _++_, map, append-assoc}
 use native.Mathlib.Omega.{arith}
@@ -11,7 +11,7 @@ use lib.Dec.{leb}
 use lib.ListN.{length, getD, drop, length-append, length-replicate}
 use lib.Seq.{sets, sets-eq, getD-append-add}
 use Rattle.floor.specs.Lists.{upFrom}
-use Rattle.floor.specs.Lists.Laws.{and-left, and-right}
+use Rattle.floor.specs.Lists.Laws.{and-right}
 use Rattle.floor.specs.Jobs.{Job, test2, rooms}
 use Rattle.floor.specs.Walls.{upright, level, low, high, at}
 use Rattle.floor.specs.Plans.{Rect, nowhere, Plan, rectOf, roomRect, planOf, drawable, Answer, refused, held, tested, planned}
@@ -30,7 +30,7 @@ use Rattle.drawing.specs.declared.Answer.the-variants.{Drawn, Refused}
 use Rattle.drawing.specs.declared.Plan.{Plan as HeldPlan}
 use Rattle.drawing.specs.declared.Drawing.{Drawing}
 use Rattle.drawing.specs.Rects.{rectAt, rectsIn, planFrom, planIn, flat, noughts, noPlan, heldPlan}
-use Rattle.drawing.specs.Drawn.{drawnAny, walledBy, walled, frame, planBy, planOn, said, kept, Draws}
+use Rattle.drawing.specs.Drawn.{byNumbers, numberedAny, drawnAny, walledBy, walled, frame, planBy, planOn, said, kept, Draws}
 
 -- ---- what is held of a plan gives it back
 
@@ -135,21 +135,21 @@ refuses r j x k e p = record { says = rw (p .0, e); keeps = rw e (p .1) }
 not-some : {f : List ℕ} → some f ≡ none → ⊥
 not-some e = let z : _≡_ {A = ℕ} 0 1 = cc in omega arith
 
--- where either direction has no numbers, the answer is 7
-planned-none : (j : Job) (a b : Option (List ℕ)) → (a ≡ none) ⊎ (b ≡ none) → planned j a b ≡ refused 7
-unfolding planned
-planned-none j none none h = refl
-planned-none j none (some g) h = refl
-planned-none j (some f) none h = refl
-planned-none j (some f) (some g) (inl e) = absurd (not-some e)
-planned-none j (some f) (some g) (inr e) = absurd (not-some e)
+-- 7 where a direction has no numbers
+none-seven : (j : Job) (a b : Option (List ℕ)) → (a ≡ none) ⊎ (b ≡ none) → byNumbers j a b ≡ refused 7
+unfolding byNumbers
+none-seven j none none h = refl
+none-seven j none (some g) h = refl
+none-seven j (some f) none h = refl
+none-seven j (some f) (some g) (inl e) = absurd (not-some e)
+none-seven j (some f) (some g) (inr e) = absurd (not-some e)
 
 module _ (j : Job) (w : Walls) (ew : w ≡ wallsOf j) where
   -- 7: the walls run in a circle
-  pub seven-drawn : (r : Drawing) → w .answer ≡ Circle → (r .answer ≡ Refused 7) × (r .plan ≡ noPlan) → Draws r j (drawnAny j)
-  unfolding drawnAny
-  seven-drawn r c p =
-      refuses r j (drawnAny j) 7 (planned-none j (numbersIn upright j) (numbersIn level j) (circled j (ap (λ (x : Walls). x .answer) (sym ew) ∙ c))) p
+  pub seven-numbered : (r : Drawing) → w .answer ≡ Circle → (r .answer ≡ Refused 7) × (r .plan ≡ noPlan) → Draws r j (numberedAny j)
+  unfolding numberedAny
+  seven-numbered r c p =
+      refuses r j (numberedAny j) 7 (none-seven j (numbersIn upright j) (numbersIn level j) (circled j (ap (λ (x : Walls). x .answer) (sym ew) ∙ c))) p
 
   module _ (num : w .answer ≡ Numbered) where
     -- the walls are numbered: both directions have numbers, and the walls hold them
@@ -159,11 +159,6 @@ module _ (j : Job) (w : Walls) (ew : w ≡ wallsOf j) where
     -- the plan by wall numbers
     abbrev p : Plan
     p = planOf j (at (c .xs)) (at (c .ys))
-
-    -- drawing the job comes to test 9 of that plan
-    drawn-tested : drawnAny j ≡ tested j p
-    unfolding drawnAny planned
-    drawn-tested = rw (c .is-upright, c .is-level)
 
     -- the job has at most 60 rooms
     few-rooms : length j ≤ 60
@@ -182,43 +177,75 @@ module _ (j : Job) (w : Walls) (ew : w ≡ wallsOf j) where
           let (most, high) = sheet-bound j c in
           (omega (arith, x, x′, most), omega (arith, x), omega (arith, y, y′, high), omega (arith, y), omega (arith, few-rooms))
 
-      module _ (h : HeldPlan) (n : ℕ) (en : n ≡ length j) (eh : h ≡ heldPlan (planOn w s n)) where
-        -- what is held is the plan by wall numbers
-        held-is : h ≡ heldPlan p
-        held-is =
-            eh
-            ∙ ap heldPlan (ap (λ (m : ℕ). planOn w s m) en
-            ∙ ap (λ (q : Sheet). planOn w q (length j)) es
-            ∙ ap (λ (x : Walls). planOn x (sheetOf x) (length j)) ew
-            ∙ plan-same j (wallsOf j) (at (c .xs)) (at (c .ys)) (c .reads))
+      -- the plan by wall numbers is held
+      pub all-numbered : (h : HeldPlan) (n : ℕ) → n ≡ length j → h ≡ heldPlan (planOn w s n)
+          → Draws (record { answer = Drawn; plan = h }) j (numberedAny j)
+      unfolding numberedAny byNumbers said kept
+      all-numbered h n en eh =
+          rw (c .is-upright, c .is-level) (record { says = ap (held j) (ap planIn held-is ∙ held-back j p (plan-complete j (at (c .xs)) (at (c .ys))) few-rooms); keeps = held-is })
+        where
+          held-is : h ≡ heldPlan p
+          held-is =
+              eh
+              ∙ ap heldPlan (ap (λ (m : ℕ). planOn w s m) en
+              ∙ ap (λ (q : Sheet). planOn w q (length j)) es
+              ∙ ap (λ (x : Walls). planOn x (sheetOf x) (length j)) ew
+              ∙ plan-same j (wallsOf j) (at (c .xs)) (at (c .ys)) (c .reads))
 
-        -- read back, it is that plan
-        back : planIn h ≡ p
-        back = ap planIn held-is ∙ held-back j p (plan-complete j (at (c .xs)) (at (c .ys))) few-rooms
+-- ---- test 9 of what is numbered
 
-        module _ (m : ℕ) (em : m ≡ h .rooms) (b : Bool) (eb : b ≡ drawable j (planFrom (h .width) (h .height) (m + 4) (h .rects))) where
-          -- the plan that is tested, by its number of rooms, is the held one
-          whole : planFrom (h .width) (h .height) (m + 4) (h .rects) ≡ planIn h
-          unfolding planIn
-          whole = rw em
+-- a plan by wall numbers, tested
+thenTested : Answer → Answer
+thenTested (refused k) = refused k
+thenTested (held j p) = tested j p
 
-          -- what is answered is the drawing test of the plan by wall numbers
-          draws : b ≡ drawable j p
-          draws = eb ∙ ap (drawable j) (whole ∙ back)
+-- DRAWING IS NUMBERING, THEN TEST 9
+numbered-tested : (j : Job) → drawnAny j ≡ thenTested (numberedAny j)
+unfolding drawnAny numberedAny
+numbered-tested j = go (numbersIn upright j) (numbersIn level j)
+  where
+    go : (a b : Option (List ℕ)) → planned j a b ≡ thenTested (byNumbers j a b)
+    go none none = unfold planned byNumbers thenTested in refl
+    go none (some g) = unfold planned byNumbers thenTested in refl
+    go (some f) none = unfold planned byNumbers thenTested in refl
+    go (some f) (some g) = unfold planned byNumbers thenTested in refl
 
-          -- 9: the drawing test fails
-          pub nine-drawn : (r : Drawing) → not b ≡ true → (r .answer ≡ Refused 9) × (r .plan ≡ noPlan) → Draws r j (drawnAny j)
-          unfolding tested
-          nine-drawn r f q = refuses r j (drawnAny j) 9
-              (drawn-tested ∙ past-false (drawable j p) 9 _ (sym draws ∙ not-true b f)) q
+module _ (j : Job) (r : Drawing) (d : Draws r j (numberedAny j)) where
+  -- 7 stays 7
+  pub undrawn : (k : ℕ) → r .answer ≡ Refused k → (t : Drawing) → (t .answer ≡ Refused k) × (t .plan ≡ noPlan) → Draws t j (drawnAny j)
+  unfolding said thenTested
+  undrawn k e t q =
+      let f : numberedAny j ≡ refused k = sym (rw e at (d .says)) in
+      refuses t j (drawnAny j) k (numbered-tested j ∙ ap thenTested f) q
 
-          -- the plan is held
-          pub all-drawn : not b ≡ false → Draws (record { answer = Drawn; plan = h }) j (drawnAny j)
-          unfolding tested said kept
-          all-drawn f =
-              let e : drawnAny j ≡ held j p
-              = drawn-tested ∙ past-true (drawable j p) 9 _ (sym draws ∙ not-false b f) in
-              record { says = rw (e, back); keeps = rw e held-is }
+  module _ (e : r .answer ≡ Drawn) (m : ℕ) (em : m ≡ r .plan .rooms) (b : Bool)
+      (eb : b ≡ drawable j (planFrom (r .plan .width) (r .plan .height) (m + 4) (r .plan .rects))) where
+    -- numbering the job comes to the plan that is kept
+    numbered-is : numberedAny j ≡ held j (planIn (r .plan))
+    unfolding said
+    numbered-is = sym (rw e at (d .says))
+
+    -- drawing the job comes to test 9 of that plan
+    drawn-tested : drawnAny j ≡ tested j (planIn (r .plan))
+    unfolding thenTested
+    drawn-tested = numbered-tested j ∙ ap thenTested numbered-is
+
+    -- what is answered is the drawing test of that plan
+    draws : b ≡ drawable j (planIn (r .plan))
+    unfolding planIn
+    draws = rw em at eb
+
+    -- 9: the drawing test fails
+    pub nine-drawn : not b ≡ true → (t : Drawing) → (t .answer ≡ Refused 9) × (t .plan ≡ noPlan) → Draws t j (drawnAny j)
+    unfolding tested
+    nine-drawn f t q = refuses t j (drawnAny j) 9 (drawn-tested ∙ past-false (drawable j (planIn (r .plan))) 9 _ (sym draws ∙ not-true b f)) q
+
+    -- what is numbered is drawn
+    pub all-drawn : not b ≡ false → Draws r j (drawnAny j)
+    unfolding tested
+    all-drawn f =
+        let g : drawnAny j ≡ numberedAny j = drawn-tested ∙ past-true (drawable j (planIn (r .plan))) 9 _ (sym draws ∙ not-false b f) ∙ sym numbered-is in
+        rw g d
 
 -- held stars are as many as the job has
 pub stars-many : (n : ℕ) (ends nbr kind : List ℕ) → n ≡ length (jobIn n ends nbr kind)

@@ -1,12 +1,13 @@
 -- What numbering and drawing any stars answers. Assumes nothing.
 use Prim.Native.Nat.{ℕ, _-_}
 use mathlib.Core.Path.{_≡_}
+use mathlib.Core.Option.{Option, none, some}
 use mathlib.Core.List.{List, [], _∷_, _++_, map}
 use lib.ListN.{getD}
 use Rattle.floor.specs.Lists.{upFrom}
 use Rattle.floor.specs.Jobs.{Job}
-use Rattle.floor.specs.Walls.{upright, level}
-use Rattle.floor.specs.Plans.{Rect, Plan, roomRect, Answer, refused, held, planned}
+use Rattle.floor.specs.Walls.{upright, level, at}
+use Rattle.floor.specs.Plans.{Rect, Plan, roomRect, planOf, Answer, refused, held, planned}
 use Rattle.walls.specs.declared.Walls.{Walls}
 use Rattle.walls.specs.declared.Sheet.{Sheet}
 use Rattle.walls.specs.Numbers.{numbersIn}
@@ -16,7 +17,18 @@ use Rattle.drawing.specs.declared.Plan.{Plan as HeldPlan}
 use Rattle.drawing.specs.declared.Drawing.{Drawing}
 use Rattle.drawing.specs.Rects.{planIn, noPlan, heldPlan}
 
--- TESTS 7 TO 9 OF ANY JOB, with the numbers that the walls promise of any job
+-- the plan by the numbers, where both directions have some
+unfoldable pub byNumbers : Job → Option (List ℕ) → Option (List ℕ) → Answer
+byNumbers j (some f) (some g) = held j (planOf j (at f) (at g))
+byNumbers j (some f) none = refused 7
+byNumbers j none (some g) = refused 7
+byNumbers j none none = refused 7
+
+-- TEST 7 ALONE OF ANY JOB, with the numbers that the walls promise of any job
+unfoldable pub numberedAny : Job → Answer
+numberedAny j = byNumbers j (numbersIn upright j) (numbersIn level j)
+
+-- TESTS 7 AND 9 OF ANY JOB, with the same numbers
 unfoldable pub drawnAny : Job → Answer
 drawnAny j = planned j (numbersIn upright j) (numbersIn level j)
 

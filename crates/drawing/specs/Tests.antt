@@ -3,8 +3,9 @@ use Prim.Native.Nat.{ℕ}
 use mathlib.Core.Bool.{Bool, not, _&&_}
 use mathlib.Core.List.{List}
 use lib.Dec.{leb, ltb, eqb}
-use Rattle.floor.specs.Lists.{pairwise}
-use Rattle.floor.specs.Jobs.{Entry, Star, Job}
+use Rattle.floor.specs.Lists.{all}
+use Rattle.floor.specs.Jobs.{Star, Link, links, Job}
+use Rattle.stars.specs.Held.{entryAt}
 use Rattle.floor.specs.Plans.{Rect, overlap, abut, apart, corner, sharesJoined, inOrder}
 
 -- r has at least a cell and lies inside a sheet so wide and so high
@@ -19,10 +20,14 @@ away a b c d = eqb (overlap a b c d) 0 && not (abut a b c d)
 unfoldable pub pairOk : Job → Rect → Rect → Bool
 pairOk j r s = apart r s && sharesJoined j r s && not (corner r s)
 
--- two entries of one kind stand in order, among these rectangles
-unfoldable pub ordered : List Rect → Entry → Entry → Bool
-ordered rs d e = inOrder (record { width = 0; height = 0; rects = rs }) d e
+-- an entry and the one that follows it stand in order where they are of one kind, among these rectangles
+unfoldable pub ordered : List Rect → Link → Bool
+ordered rs l = inOrder (record { width = 0; height = 0; rects = rs }) l
 
--- so do any two of a star
+-- the entries at two places of held stars, one behind the other
+abbrev pub twoAt : List ℕ → List ℕ → ℕ → ℕ → Link
+twoAt nbr kind a b = record { this = entryAt nbr kind a; next = entryAt nbr kind b }
+
+-- so they do once round a star
 unfoldable pub starOrdered : List Rect → Star → Bool
-starOrdered rs s = pairwise (ordered rs) s
+starOrdered rs s = all (ordered rs) (links s)

@@ -7,7 +7,7 @@ ghost use Rattle.fields.specs.Writes.{replied, writing};
 ghost use Rattle.stars.specs.Held.{jobIn};
 ghost use Rattle.drawing.specs.Rects.{rectIn, rectsIn, planFrom, inBytes, noPlan};
 ghost use Rattle.drawing.specs.declared.Answer.the-variants.{Refused};
-ghost use Rattle.drawing.specs.Drawn.{drawnAny, Draws};
+ghost use Rattle.drawing.specs.Drawn.{numberedAny, drawnAny, Draws};
 use fields::Written;
 
 pub mod rects; // rects.rt: one rectangle and two: inside, apart, share, corner, area
@@ -112,10 +112,10 @@ fn drawable<'a>(
     order::all_ordered(rects, many, ends, nbr, kind, count)
 }
 
-// Held stars numbered and drawn: tests 7 and 9.
-pub fn draw<'a>(ends: &'a [u16], nbr: &'a [u16], kind: &'a [u8], count: usize) -> Drawing
+// Held stars numbered: test 7, and the plan by their wall numbers.
+pub fn plan_stars<'a>(ends: &'a [u16], nbr: &'a [u16], kind: &'a [u8], count: usize) -> Drawing
     ensures { λ r. ⌜ Draws r (jobIn count (now (ends .entry)) (now (nbr .entry)) (now (kind .entry)))
-        (drawnAny (jobIn count (now (ends .entry)) (now (nbr .entry)) (now (kind .entry)))) ⌝ }
+        (numberedAny (jobIn count (now (ends .entry)) (now (nbr .entry)) (now (kind .entry)))) ⌝ }
 {
     let walls = walls::walls_of(ends, nbr, kind, count);
     let answer = walls.answer;
@@ -128,22 +128,38 @@ pub fn draw<'a>(ends: &'a [u16], nbr: &'a [u16], kind: &'a [u8], count: usize) -
     let ys = levels.0;
     let sheet = walls::sheet_at(&xs, &ys);
     let plan = place::plan_of(&xs, &ys, sheet, count);
-    let many = fields::wide(plan.rooms) + 4;
-    if !drawable(
-        ends,
-        nbr,
-        kind,
-        count,
-        &plan.rects,
-        many,
-        plan.width,
-        plan.height,
-    ) {
-        return refused(9);
-    }
     Drawing {
         answer: Answer::Drawn,
         plan: plan,
+    }
+}
+
+// Held stars numbered and drawn: tests 7 and 9.
+pub fn draw<'a>(ends: &'a [u16], nbr: &'a [u16], kind: &'a [u8], count: usize) -> Drawing
+    ensures { λ r. ⌜ Draws r (jobIn count (now (ends .entry)) (now (nbr .entry)) (now (kind .entry)))
+        (drawnAny (jobIn count (now (ends .entry)) (now (nbr .entry)) (now (kind .entry)))) ⌝ }
+{
+    let drawing = plan_stars(ends, nbr, kind, count);
+    let plan = drawing.plan;
+    let answer = drawing.answer;
+    match answer {
+        Answer::Refused(k) => refused(k),
+        Answer::Drawn => {
+            let many = fields::wide(plan.rooms) + 4;
+            if !drawable(
+                ends,
+                nbr,
+                kind,
+                count,
+                &plan.rects,
+                many,
+                plan.width,
+                plan.height,
+            ) {
+                return refused(9);
+            }
+            drawing
+        }
     }
 }
 

@@ -1,10 +1,10 @@
-// Whether the neighbours of one kind stand in order, star by star.
+// Whether the neighbours of one kind stand in order, once round each star.
 ghost use mathlib.Core.Path.{_≡_};
 ghost use Prim.Native.Nat.{_-_, _<_};
 ghost use Rattle.floor.specs.Lists.{all};
-ghost use Rattle.stars.specs.Held.{entryAt, cells, heldStar, jobIn};
+ghost use Rattle.stars.specs.Held.{cells, heldStar, jobIn};
 ghost use Rattle.drawing.specs.Rects.{rectsIn};
-ghost use Rattle.drawing.specs.Tests.{ordered, starOrdered};
+ghost use Rattle.drawing.specs.Tests.{twoAt, ordered, starOrdered};
 
 // Whether the entries at two places, where they are of one kind, stand in order.
 fn two_ordered<'a>(
@@ -16,8 +16,7 @@ fn two_ordered<'a>(
     b: usize,
 ) -> bool
     requires { ⌜ many < 65536 ⌝ }
-    ensures { λ r. ⌜ r ≡ ordered (rectsIn many 0 (now (rects .entry))) (entryAt (now (nbr .entry)) (now (kind .entry)) a)
-        (entryAt (now (nbr .entry)) (now (kind .entry)) b) ⌝ }
+    ensures { λ r. ⌜ r ≡ ordered (rectsIn many 0 (now (rects .entry))) (twoAt (now (nbr .entry)) (now (kind .entry)) a b) ⌝ }
 {
     let k = stars::held::kind_at(kind, a);
     if k != stars::held::kind_at(kind, b) {
@@ -28,31 +27,7 @@ fn two_ordered<'a>(
     crate::rects::follows(k, r, s)
 }
 
-// Whether the entry at a place stands in order with every one from another place to an end.
-fn later_ordered<'a>(
-    rects: &'a [u16],
-    many: usize,
-    nbr: &'a [u16],
-    kind: &'a [u8],
-    a: usize,
-    first: usize,
-    end: usize,
-) -> bool
-    requires { ⌜ many < 65536 ⌝ }
-    ensures { λ r. ⌜ r ≡ all (ordered (rectsIn many 0 (now (rects .entry))) (entryAt (now (nbr .entry)) (now (kind .entry)) a))
-        (cells (end - first) first (now (nbr .entry)) (now (kind .entry))) ⌝ }
-{
-    let mut b = first;
-    while b < end {
-        if !two_ordered(rects, many, nbr, kind, a, b) {
-            return false;
-        }
-        b += 1;
-    }
-    true
-}
-
-// Whether any two entries from a place to an end stand in order.
+// Whether each entry from a place to an end stands in order with the one that follows it, behind the last the first.
 fn part_ordered<'a>(
     rects: &'a [u16],
     many: usize,
@@ -66,7 +41,8 @@ fn part_ordered<'a>(
 {
     let mut a = from;
     while a < end {
-        if !later_ordered(rects, many, nbr, kind, a, a + 1, end) {
+        let b = stars::held::place_after(from, end, a);
+        if !two_ordered(rects, many, nbr, kind, a, b) {
             return false;
         }
         a += 1;
@@ -74,7 +50,7 @@ fn part_ordered<'a>(
     true
 }
 
-// Whether any two entries of a star do.
+// Whether each entry of a star does.
 fn star_ordered<'a>(
     rects: &'a [u16],
     many: usize,
@@ -91,7 +67,7 @@ fn star_ordered<'a>(
     part_ordered(rects, many, nbr, kind, from, end)
 }
 
-// Whether any two entries of each star do.
+// Whether each entry of every star does.
 pub fn all_ordered<'a>(
     rects: &'a [u16],
     many: usize,

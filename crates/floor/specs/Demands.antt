@@ -4,26 +4,29 @@ use mathlib.Core.Path.{_≡_}
 use mathlib.Core.Logic.{_⊎_, _↔_}
 use mathlib.Core.Bool.{true}
 use mathlib.Core.Option.{some}
-use mathlib.Core.List.{List}
+use mathlib.Core.List.{List, map}
 use lib.ListN.{length}
 use borrow.Author.Tests.{ne-eqb}
 use Rattle.floor.specs.Lists.Laws.{same-test}
 use Rattle.floor.specs.Fields.{Bytes}
-use Rattle.floor.specs.Jobs.{Job, Vertex, Labelling, writeJob}
-use Rattle.floor.specs.Jobs.Facts.{labelling-passes, Passes}
+use Rattle.floor.specs.Jobs.{Job, Vertex, Labelling, writeJob, Entry, Star, OnlyStarts, reads, readJob}
+use Rattle.floor.specs.Jobs.Facts.{labelling-passes}
 use Rattle.floor.specs.Walls.{Circle, upright, level, rules, at, jobNumbers}
-use Rattle.floor.specs.Plans.{Plan, rectOf, share, planOf, joined, refused, held, drawn, Numbered}
+use Rattle.floor.specs.Plans.{Plan, rectOf, share, planOf, joined, refused, held, drawn, Numbered, Alike}
 use Rattle.floor.specs.Plans.Held.{seven, nine, held-bound}
 use Rattle.floor.specs.Floor.{Shares, Joined, Floor}
 use Rattle.floor.specs.Floor.Joins.{joined-of, of-joined}
 use Rattle.floor.specs.Floor.Draws.{shares-of, of-shares}
-use Rattle.floor.specs.Turns.{turn, Kept, Turnable, turnedBy}
+use Rattle.floor.specs.Turns.{turn, Kept, Turnable, turnedBy, InContact}
+use Rattle.floor.specs.Turns.Turned.{turned-places}
 use Rattle.floor.specs.Turns.Restore.{turned-keeps}
-use Rattle.floor.specs.Calls.{load, Board, empty, holding, Call, loads, turns, refusal, done, lent, sharing, step, run, Accepted, Answers, Left, Restored, WellHeld, ofLoad}
-use Rattle.floor.specs.Calls.{Turned}
-use Rattle.floor.specs.Calls.Sound.{Sound, some-room, sound-good, any-calls-sound}
+use Rattle.floor.specs.Calls.{load, Board, empty, holding, Call, loads, turns, refusal, done, lent, sharing, step, run, Accepted, Answers, Left, Restored}
+use Rattle.floor.specs.Calls.{BoardsAlike, StepsAlike, WellHeld, ofLoad, Turned}
+use Rattle.floor.specs.Calls.Sound.{Sound, some-room, sound-good, any-calls-sound, SoundBoard, step-sound, run-sound}
 use Rattle.floor.specs.Calls.Effects.{refused-leaves, write-load, load-write, turn-turn}
+use Rattle.floor.specs.Calls.Always.{turn-done, turn-refused}
 use Rattle.floor.specs.Calls.Exact.{drawn-numbered, accepted, load-answers, turned-exactly}
+use Rattle.floor.specs.Calls.Starts.{load-alike, loaded-alike, step-alike, run-alike}
 
 -- DEMAND 1. Every job, however damaged or contradictory, gets an answer: a plan or one numbered refusal.
 pub every-job-answered : (bs : List ℕ) → Answers ofLoad (load bs)
@@ -45,6 +48,17 @@ circle-exactly j l = seven j (labelling-passes j l)
 pub turn-accepted-exactly : (cs : List Call) (j : Job) (p : Plan) → run empty cs ≡ holding j p
     → (u v : ℕ) (i : Job) (q : Plan) → (turn j u v ≡ held i q) ↔ Turned j u v i q
 turn-accepted-exactly cs j p h = turned-exactly j p (any-calls-sound cs j p h)
+
+-- It is accepted exactly where the contact can be turned: two rooms in contact, either list with at least two.
+pub turn-accepted-where : (cs : List Call) (j : Job) (p : Plan) → run empty cs ≡ holding j p
+    → (u v : ℕ) → (step (holding j p) (turns u v) .reply ≡ done) ↔ Turnable j u v
+turn-accepted-where cs j p h = turn-done j p (any-calls-sound cs j p h)
+
+-- Else it is refused: by 11 exactly where the numbers are not two rooms in contact, by 12 exactly where they are and cannot be turned. A turned labelling is
+-- never refused, by 7 or 9.
+pub turn-refused-exactly : (cs : List Call) (j : Job) (p : Plan) → run empty cs ≡ holding j p → (u v k : ℕ)
+    → (turn j u v ≡ refused k) ↔ (((k ≡ 11) × (InContact j u v → ⊥)) ⊎ ((k ≡ 12) × InContact j u v × (Turnable j u v → ⊥)))
+turn-refused-exactly cs j p h = turn-refused j p (any-calls-sound cs j p h)
 
 -- A job written out and read back is the same job, whatever board it is loaded into.
 pub written-and-read : (cs : List Call) (j : Job) (p : Plan) → run empty cs ≡ holding j p → (b : Board) → step b (loads (writeJob j)) .board ≡ holding j p
@@ -105,9 +119,43 @@ turned-undrawable-exactly cs j p h u v t =
     let k : Kept j (turnedBy t) = turned-labelling cs j p h u v t in
     nine (turnedBy t) (labelling-passes (turnedBy t) (k .labelling)) (rw (k .rooms) (some-room j p (any-calls-sound cs j p h)))
 
+-- A turn moves no entry: each star names whom it named, in the same places.
+pub turned-in-place : (j : Job) (u v : ℕ) (t : Turnable j u v)
+    → map (λ (s : Star). map (λ (e : Entry). e .to) s) (turnedBy t) ≡ map (λ (s : Star). map (λ (e : Entry). e .to) s) j
+turned-in-place j u v t = turned-places j (t .a) (t .b) (t .m) (t .room-a .0) (t .room-b .0)
+
 -- An accepted turn made again at once, with no other call that changes the plan between, is accepted and gives back the plan before it, whichever of the
 -- two numbers is named first.
 pub turned-again : (cs ds : List Call) (j : Job) (p : Plan) (u v : ℕ) (b : Board) → run empty cs ≡ holding j p
     → step (holding j p) (turns u v) .reply ≡ done → b ≡ step (holding j p) (turns u v) .board → run b ds ≡ b
     → Restored (holding j p) (step (run b ds) (turns u v)) × Restored (holding j p) (step (run b ds) (turns v u))
 turned-again cs ds j p u v b h e q r = rw (r, q) (turn-turn j p u v (any-calls-sound cs j p h) e)
+
+-- STARTS. Jobs that differ only in their starts get equal plans, or the same refusal;
+pub starts-alike : (bs cs : List ℕ) (j i : Job) → readJob bs ≡ reads j → readJob cs ≡ reads i → OnlyStarts j i → Alike (load bs) (load cs)
+starts-alike = load-alike
+
+-- and after them any calls are answered alike, and leave equal plans.
+pub starts-any-calls : (cs ds : List Call) (bs bs′ : List ℕ) (j i : Job) → readJob bs ≡ reads j → readJob bs′ ≡ reads i → OnlyStarts j i
+    → BoardsAlike (run (step (run empty cs) (loads bs) .board) ds) (run (step (run empty cs) (loads bs′) .board) ds)
+    × ((c : Call)
+    → StepsAlike (step (run (step (run empty cs) (loads bs) .board) ds) c) (step (run (step (run empty cs) (loads bs′) .board) ds) c))
+starts-any-calls cs ds bs bs′ j i e q o = (later, λ c. step-alike c (run-sound one ds (sound bs)) (run-sound two ds (sound bs′)) later)
+  where
+    before : Board
+    before = run empty cs
+
+    one : Board
+    one = step before (loads bs) .board
+
+    two : Board
+    two = step before (loads bs′) .board
+
+    sound : (bs : List ℕ) → SoundBoard (step before (loads bs) .board)
+    sound bs = step-sound before (loads bs) (run-sound empty cs tt)
+
+    first : BoardsAlike one two
+    first = loaded-alike before bs bs′ j i e q o
+
+    later : BoardsAlike (run one ds) (run two ds)
+    later = run-alike one two ds (sound bs) (sound bs′) first

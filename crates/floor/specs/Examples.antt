@@ -5,15 +5,16 @@ use mathlib.Core.Bool.{Bool, true, cond}
 use mathlib.Core.List.{List, [], _∷_, _++_, map}
 use lib.Dec.{eqb}
 use lib.ListN.{replicate}
-use Rattle.floor.specs.Lists.{all, any, keep, pairwise, chained, sum, sameNumbers, upFrom, isFirst, isLast}
+use Rattle.floor.specs.Lists.{all, any, keep, pairwise, sum, sameNumbers, upFrom}
 use Rattle.floor.specs.Fields.{readField, restOf, writeField}
+use Rattle.floor.specs.Jobs.{linksTo, links, changes, goesOn}
 use Rattle.floor.specs.Jobs.{Star, Job, opposite, frameKind, rooms, isVertex, isRoom, starOf, names, lists, kindOf, listOf, pairsIn, test2, test3}
 use Rattle.floor.specs.Jobs.{entryOk, test4, starOk, test5, test6, entries, starThen, readStars, readRest, readRooms, readFirst, readJob, passing}
 use Rattle.floor.specs.Jobs.{firstSix, starBytes, writeStars, writeJob}
 use Rattle.floor.specs.Walls.{entryRules, starRules, rulesFrom, raise, relax1, relax, meets, over, passes, numbersOf, jobNumbers}
 use Rattle.floor.specs.Plans.{Rect, rectOf, roomRect, planOf, inside, overlap, abut, apart, area, share, corner, nextSide, joined, sharesJoined}
-use Rattle.floor.specs.Plans.{follows, inOrder, drawable, past, tested, planned, drawn, drawRead, rectBytes, writeRects, writePlan}
-use Rattle.floor.specs.Turns.{turnedKind, withKind, rekinded, turned, turningAt, turningFrom, inContact, turning, turn}
+use Rattle.floor.specs.Plans.{follows, inOrder, roundInOrder, drawable, past, tested, planned, drawn, drawRead, rectBytes, writeRects, writePlan}
+use Rattle.floor.specs.Turns.{turnedKind, withKind, endsAt, isLast, turned, turningAt, turningFrom, inContact, turning, turn}
 use Rattle.floor.specs.Calls.{Board, empty, holding, Call, loads, turns, rectangle, shares, writesJob, writesPlan, Reply, refusal, done, spans, says}
 use Rattle.floor.specs.Calls.{wrote, Step, load, refuse, after, asks, writes, sharing, step, run}
 
@@ -53,6 +54,34 @@ jobF =
     ∷ 2 ∷ 0 ∷ 10 ∷ 0 ∷ 0 ∷ 4 ∷ 1 ∷ 6 ∷ 1 ∷ 7 ∷ 2 ∷ 3 ∷ 3
     ∷ 2 ∷ 0 ∷ 10 ∷ 4 ∷ 0 ∷ 1 ∷ 1 ∷ 2 ∷ 2 ∷ 7 ∷ 3 ∷ 5 ∷ 3
     ∷ 2 ∷ 0 ∷ 8 ∷ 5 ∷ 0 ∷ 6 ∷ 1 ∷ 2 ∷ 2 ∷ 3 ∷ 3 ∷ []
+
+-- F with each star started elsewhere: below, inside the left-list, inside the right-list, at the right
+jobG : List ℕ
+jobG =
+    1 ∷ 0 ∷ 1 ∷ 4
+    ∷ 2 ∷ 0 ∷ 8 ∷ 6 ∷ 2 ∷ 5 ∷ 3 ∷ 0 ∷ 0 ∷ 1 ∷ 1
+    ∷ 2 ∷ 0 ∷ 10 ∷ 6 ∷ 1 ∷ 7 ∷ 2 ∷ 3 ∷ 3 ∷ 0 ∷ 0 ∷ 4 ∷ 1
+    ∷ 2 ∷ 0 ∷ 10 ∷ 5 ∷ 3 ∷ 4 ∷ 0 ∷ 1 ∷ 1 ∷ 2 ∷ 2 ∷ 7 ∷ 3
+    ∷ 2 ∷ 0 ∷ 8 ∷ 3 ∷ 3 ∷ 5 ∷ 0 ∷ 6 ∷ 1 ∷ 2 ∷ 2 ∷ []
+
+-- the same after the turn of 5 and 6: two kinds are changed, and no entry has moved
+turnedG : List ℕ
+turnedG =
+    1 ∷ 0 ∷ 1 ∷ 4
+    ∷ 2 ∷ 0 ∷ 8 ∷ 6 ∷ 2 ∷ 5 ∷ 3 ∷ 0 ∷ 0 ∷ 1 ∷ 1
+    ∷ 2 ∷ 0 ∷ 10 ∷ 6 ∷ 2 ∷ 7 ∷ 2 ∷ 3 ∷ 3 ∷ 0 ∷ 0 ∷ 4 ∷ 1
+    ∷ 2 ∷ 0 ∷ 10 ∷ 5 ∷ 0 ∷ 4 ∷ 0 ∷ 1 ∷ 1 ∷ 2 ∷ 2 ∷ 7 ∷ 3
+    ∷ 2 ∷ 0 ∷ 8 ∷ 3 ∷ 3 ∷ 5 ∷ 0 ∷ 6 ∷ 1 ∷ 2 ∷ 2 ∷ []
+
+-- one room with its star as it is given
+oneRoom : List ℕ → List ℕ
+oneRoom s = 1 ∷ 0 ∷ 1 ∷ 1 ∷ writeField 2 s
+
+-- room 4 below 5 (left) and 6 (right), with the star of 4 as it is given
+below : List ℕ → List ℕ
+below s =
+    1 ∷ 0 ∷ 1 ∷ 3
+    ∷ (writeField 2 s ++ 2 ∷ 0 ∷ 8 ∷ 0 ∷ 0 ∷ 1 ∷ 1 ∷ 4 ∷ 2 ∷ 6 ∷ 3 ∷ 2 ∷ 0 ∷ 8 ∷ 0 ∷ 0 ∷ 5 ∷ 1 ∷ 4 ∷ 2 ∷ 3 ∷ 3 ∷ [])
 
 -- P10: F without the contact of 5 and 6
 p10 : List ℕ
@@ -188,6 +217,29 @@ table =
     -- P12
     record { before = loads jobF ∷ []; last = turns 4 0; shows = 11 ∷ [] }
     ∷
+    -- F with each star started elsewhere: the same plan, turned and turned again
+    record { before = []; last = loads jobG; shows = floorF }
+    ∷
+    record { before = loads jobG ∷ []; last = turns 5 6; shows = turnedF }
+    ∷
+    record { before = loads jobG ∷ turns 5 6 ∷ []; last = turns 6 5; shows = floorF }
+    ∷
+    -- written, it keeps its starts
+    record { before = loads jobG ∷ turns 5 6 ∷ []; last = writesJob (replicate 52 0); shows = 52 ∷ turnedG }
+    ∷
+    record { before = loads jobG ∷ turns 5 6 ∷ turns 5 6 ∷ []; last = writesJob (replicate 52 0); shows = 52 ∷ jobG }
+    ∷
+    -- clockwise: the kind changes four times, but not from 0 to 1 to 2 to 3
+    record { before = []; last = loads (oneRoom (0 ∷ 0 ∷ 3 ∷ 3 ∷ 2 ∷ 2 ∷ 1 ∷ 1 ∷ [])); shows = 5 ∷ [] }
+    ∷
+    -- a kind is missing
+    record { before = []; last = loads (oneRoom (1 ∷ 1 ∷ 2 ∷ 2 ∷ 3 ∷ 3 ∷ [])); shows = 5 ∷ [] }
+    ∷
+    -- room 4 started between its two neighbours above, in order and not
+    record { before = loads (below (5 ∷ 0 ∷ 1 ∷ 1 ∷ 2 ∷ 2 ∷ 3 ∷ 3 ∷ 6 ∷ 0 ∷ [])) ∷ []; last = rectangle 6; shows = 6 ∷ 2 ∷ 2 ∷ 3 ∷ 3 ∷ [] }
+    ∷
+    record { before = []; last = loads (below (6 ∷ 0 ∷ 1 ∷ 1 ∷ 2 ∷ 2 ∷ 3 ∷ 3 ∷ 5 ∷ 0 ∷ [])); shows = 9 ∷ [] }
+    ∷
     -- no plan is held
     record { before = []; last = turns 4 5; shows = 10 ∷ [] }
     ∷
@@ -230,12 +282,13 @@ table =
 
 -- EVERY ROW HOLDS
 pub examples : all right table ≡ true
-unfolding rowStar row p1 p5 p6 p7 jobF p10 floorP1 floorP5 floorF turnedF planP1 sameNumbers numbers plan told right table all any keep pairwise chained sum
-    upFrom isFirst
-    isLast readField restOf writeField opposite frameKind rooms isVertex isRoom starOf names lists kindOf listOf pairsIn test2 test3 entryOk test4 starOk
+unfolding rowStar row p1 p5 p6 p7 jobF jobG turnedG oneRoom below p10 floorP1 floorP5 floorF turnedF planP1 sameNumbers numbers plan told right table all any
+    keep pairwise sum upFrom linksTo links changes goesOn endsAt isLast readField restOf writeField opposite frameKind rooms isVertex isRoom starOf names
+    lists kindOf listOf pairsIn test2 test3 entryOk test4 starOk
     test5 test6 entries starThen readStars readRest readRooms readFirst readJob passing firstSix starBytes writeStars writeJob entryRules starRules
     rulesFrom raise relax1
     relax meets over passes numbersOf jobNumbers rectOf roomRect planOf inside overlap abut apart area share corner nextSide joined sharesJoined follows
-    inOrder drawable past tested planned drawn rectBytes writeRects writePlan turnedKind withKind rekinded turned turningAt turningFrom turning inContact turn
+    inOrder roundInOrder drawable past tested planned drawn rectBytes writeRects writePlan
+    turnedKind withKind turned turningAt turningFrom turning inContact turn
     drawRead load refuse after asks writes sharing step run
 examples = refl

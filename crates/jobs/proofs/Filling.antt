@@ -10,7 +10,8 @@ use Rattle.floor.specs.Fields.{readField, valueOf, restOf}
 use Rattle.floor.specs.Jobs.{Entry, pairsIn, entries}
 use Rattle.stars.specs.declared.Stars.{Stars}
 use Rattle.stars.specs.Held.{toOf, kindOf, noStars, putStar, putAll, heldOf}
-use Rattle.stars.proofs.Entries.{here, entries-more, entries-done}
+use Rattle.stars.specs.Pairs.{here}
+use Rattle.stars.proofs.Entries.{entries-more, entries-done}
 use Rattle.jobs.specs.Shapes.{starsAt}
 use Rattle.jobs.proofs.Outlines.{entries-length}
 use Rattle.jobs.proofs.Walks.{next-star, no-star, behind}

@@ -63,9 +63,16 @@ fn go_round(sheet: &mut [u16]) {
 }
 
 // The walls of a circle put in order behind the others, where some walls were left over.
-pub fn circle<'a>(sheet: &mut [u16], cross: u8, ends: &'a [u16], nbr: &'a [u16], count: usize) {
+pub fn circle<'a>(
+    sheet: &mut [u16],
+    cross: u8,
+    ends: &'a [u16],
+    nbr: &'a [u16],
+    kind: &'a [u8],
+    count: usize,
+) {
     if get(sheet, COUNT, READY) < get(sheet, COUNT, WALLS) {
-        crate::step::note_steps(sheet, cross, ends, nbr, count);
+        crate::step::note_steps(sheet, cross, ends, nbr, kind, count);
         go_far_back(sheet);
         go_round(sheet);
     }

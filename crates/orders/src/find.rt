@@ -17,6 +17,8 @@ use crate::sheet::of_side;
 use crate::sheet::put;
 use crate::sheet::put_side;
 use crate::sheet::sides;
+use stars::held::end_of;
+use stars::held::start_of;
 use stars::held::to_at;
 
 // The steps that lead to a side, if it is a high one, count for its wall.
@@ -45,20 +47,34 @@ fn reach(sheet: &mut [u16], side: usize, parent: usize, k: usize) {
     await_steps(sheet, side, wall);
 }
 
-// From a room's side along its contacts.
+// From a room's side along the contacts from a place to an end.
+fn spread_part<'a>(sheet: &mut [u16], nbr: &'a [u16], side: usize, first: usize, end: usize) {
+    let mut k = first;
+    while k < end {
+        reach(sheet, 2 * to_at(nbr, k) + 1 - side % 2, side, k);
+        k += 1;
+    }
+}
+
+// From a room's side along its contacts of one kind: where they go over the star's end, those behind its start too.
 fn spread_room<'a>(
     sheet: &mut [u16],
     ends: &'a [u16],
     nbr: &'a [u16],
+    kind: &'a [u8],
     i: usize,
     side: usize,
     want: u8,
 ) {
-    let end = part_end(sheet, ends, nbr.len(), i, want);
-    let mut k = part_start(sheet, ends, nbr.len(), i, want);
-    while k < end {
-        reach(sheet, 2 * to_at(nbr, k) + 1 - side % 2, side, k);
-        k += 1;
+    let from = start_of(ends, nbr.len(), i);
+    let end = end_of(ends, nbr.len(), i);
+    let first = part_start(sheet, kind, from, end, i, want);
+    let stop = part_end(sheet, kind, from, end, i, want);
+    if first < stop {
+        spread_part(sheet, nbr, side, first, stop);
+    } else {
+        spread_part(sheet, nbr, side, first, end);
+        spread_part(sheet, nbr, side, from, stop);
     }
 }
 
@@ -67,6 +83,7 @@ fn along_frame<'a>(
     sheet: &mut [u16],
     ends: &'a [u16],
     nbr: &'a [u16],
+    kind: &'a [u8],
     i: usize,
     side: usize,
     want: u8,
@@ -74,7 +91,9 @@ fn along_frame<'a>(
     if sides(sheet) <= i {
         return;
     }
-    let k = part_start(sheet, ends, nbr.len(), i, want);
+    let from = start_of(ends, nbr.len(), i);
+    let end = end_of(ends, nbr.len(), i);
+    let k = part_start(sheet, kind, from, end, i, want);
     if to_at(nbr, k) == side / 2 {
         reach(sheet, 2 * (4 + i) + 1 - side % 2, side, k);
     }
@@ -85,13 +104,14 @@ fn spread_frame<'a>(
     sheet: &mut [u16],
     ends: &'a [u16],
     nbr: &'a [u16],
+    kind: &'a [u8],
     count: usize,
     side: usize,
     want: u8,
 ) {
     let mut i: usize = 0;
     while i < count {
-        along_frame(sheet, ends, nbr, i, side, want);
+        along_frame(sheet, ends, nbr, kind, i, side, want);
         i += 1;
     }
 }
@@ -103,15 +123,16 @@ fn spread<'a>(
     near: u8,
     ends: &'a [u16],
     nbr: &'a [u16],
+    kind: &'a [u8],
     count: usize,
     side: usize,
 ) {
     if side < 8 {
         let want = if side % 2 == 0 { far } else { near };
-        spread_frame(sheet, ends, nbr, count, side, want);
+        spread_frame(sheet, ends, nbr, kind, count, side, want);
     } else {
         let want = if side % 2 == 0 { near } else { far };
-        spread_room(sheet, ends, nbr, side / 2 - 4, side, want);
+        spread_room(sheet, ends, nbr, kind, side / 2 - 4, side, want);
     }
 }
 
@@ -122,6 +143,7 @@ fn grow<'a>(
     near: u8,
     ends: &'a [u16],
     nbr: &'a [u16],
+    kind: &'a [u8],
     count: usize,
     first: usize,
 ) {
@@ -132,7 +154,7 @@ fn grow<'a>(
             return;
         }
         let side = of_side(sheet, SIDE, p);
-        spread(sheet, far, near, ends, nbr, count, side);
+        spread(sheet, far, near, ends, nbr, kind, count, side);
         p += 1;
     }
 }
@@ -144,6 +166,7 @@ fn new_wall<'a>(
     near: u8,
     ends: &'a [u16],
     nbr: &'a [u16],
+    kind: &'a [u8],
     count: usize,
     side: usize,
 ) {
@@ -152,7 +175,7 @@ fn new_wall<'a>(
     let first = get(sheet, COUNT, FOUND);
     put(sheet, START, wall, first);
     reach(sheet, side, side, NONE);
-    grow(sheet, far, near, ends, nbr, count, first);
+    grow(sheet, far, near, ends, nbr, kind, count, first);
     let end = get(sheet, COUNT, FOUND);
     put(sheet, START, wall + 1, end);
 }
@@ -164,11 +187,12 @@ fn find_wall<'a>(
     near: u8,
     ends: &'a [u16],
     nbr: &'a [u16],
+    kind: &'a [u8],
     count: usize,
     side: usize,
 ) {
     if of_side(sheet, WALL, side) == 0 {
-        new_wall(sheet, far, near, ends, nbr, count, side);
+        new_wall(sheet, far, near, ends, nbr, kind, count, side);
     }
 }
 
@@ -179,6 +203,7 @@ fn find_rooms<'a>(
     near: u8,
     ends: &'a [u16],
     nbr: &'a [u16],
+    kind: &'a [u8],
     count: usize,
 ) {
     let most = sides(sheet);
@@ -187,7 +212,7 @@ fn find_rooms<'a>(
         if count <= side / 2 - 4 {
             return;
         }
-        find_wall(sheet, far, near, ends, nbr, count, side);
+        find_wall(sheet, far, near, ends, nbr, kind, count, side);
         side += 1;
     }
 }
@@ -199,17 +224,28 @@ pub fn find_walls<'a>(
     near: u8,
     ends: &'a [u16],
     nbr: &'a [u16],
+    kind: &'a [u8],
     count: usize,
 ) {
-    new_wall(sheet, far, near, ends, nbr, count, 2 * fields::wide(far));
     new_wall(
         sheet,
         far,
         near,
         ends,
         nbr,
+        kind,
+        count,
+        2 * fields::wide(far),
+    );
+    new_wall(
+        sheet,
+        far,
+        near,
+        ends,
+        nbr,
+        kind,
         count,
         2 * fields::wide(near) + 1,
     );
-    find_rooms(sheet, far, near, ends, nbr, count);
+    find_rooms(sheet, far, near, ends, nbr, kind, count);
 }

@@ -29,7 +29,7 @@ fn find_all<'a>(
 ) {
     sheet::clear(sheet);
     parts::part_stars(sheet, cross, ends, nbr, kind, count);
-    find::find_walls(sheet, far, near, ends, nbr, count);
+    find::find_walls(sheet, far, near, ends, nbr, kind, count);
 }
 
 // The walls put in order. The answer is how many of them come before those of the circle.
@@ -38,11 +38,12 @@ fn arrange<'a>(
     cross: u8,
     ends: &'a [u16],
     nbr: &'a [u16],
+    kind: &'a [u8],
     count: usize,
 ) -> usize {
-    step::take_walls(sheet, cross, ends, nbr);
+    step::take_walls(sheet, cross, ends, nbr, kind);
     let before = sheet::get(sheet, sheet::COUNT, sheet::READY);
-    circle::circle(sheet, cross, ends, nbr, count);
+    circle::circle(sheet, cross, ends, nbr, kind, count);
     before
 }
 
@@ -63,7 +64,7 @@ pub fn order_of<'a>(
     ensures { λ r. ⌜ (r .again ≤ r .many) × (r .many ≤ length (now (visits .entry))) ⌝ }
 {
     find_all(sheet, far, near, cross, ends, nbr, kind, count);
-    let before = arrange(sheet, cross, ends, nbr, count);
+    let before = arrange(sheet, cross, ends, nbr, kind, count);
     let again = visits::visit_walls(visits, sheet, cross, ends, nbr, kind, 0, before, 0);
     let ready = sheet::get(sheet, sheet::COUNT, sheet::READY);
     let many = visits::visit_walls(visits, sheet, cross, ends, nbr, kind, before, ready, again);

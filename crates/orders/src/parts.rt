@@ -1,4 +1,4 @@
-// The parts of a star, one for each kind: kinds never fall in it, so that entries of one kind stand together.
+// The parts of a star, one for each kind: once round it, entries of one kind stand together.
 ghost use Prim.Native.Nat.{_≤_};
 use crate::sheet::FIRST;
 use crate::sheet::LAST;
@@ -9,15 +9,37 @@ use crate::sheet::put;
 use crate::sheet::sides;
 use stars::held::end_of;
 use stars::held::kind_at;
+use stars::held::place_after;
 use stars::held::start_of;
 use stars::held::to_at;
 
-// Where a star's parts meet, and how many of its contacts lie across between rooms.
+// Where the entries of kinds 1, 2 and 3 start, and how many of a star's contacts lie across between rooms.
 struct Parts {
     pub first: usize,
     pub middle: usize,
     pub last: usize,
     pub across: usize,
+}
+
+// The parts known, with the one that starts at a place, if the kind changes there.
+fn with_start(parts: Parts, before: u8, this: u8, k: usize) -> Parts {
+    let mut next = parts;
+    if this == before {
+        return next;
+    }
+    match this {
+        1 => {
+            next.first = k;
+        }
+        2 => {
+            next.middle = k;
+        }
+        3 => {
+            next.last = k;
+        }
+        _ => {}
+    }
+    next
 }
 
 // 1 for yes and 0 for no.
@@ -40,26 +62,29 @@ fn one_across(cross: u8, kind: u8, v: usize) -> usize
     one(kind % 2 == cross % 2)
 }
 
-// The parts of a star.
+// The parts of a star, gone once round: before the first entry stands the last.
 fn parts_of<'a>(cross: u8, ends: &'a [u16], nbr: &'a [u16], kind: &'a [u8], i: usize) -> Parts {
     let end = end_of(ends, nbr.len(), i);
     let mut k = start_of(ends, nbr.len(), i);
-    let mut first = k;
-    let mut middle = k;
-    let mut last = k;
+    let mut parts = Parts {
+        first: k,
+        middle: k,
+        last: k,
+        across: 0,
+    };
     let mut across: usize = 0;
+    let mut before = if 0 < end { kind_at(kind, end - 1) } else { 0 };
     while k < end {
         let this = kind_at(kind, k);
-        first += one(this < 1);
-        middle += one(this < 2);
-        last += one(this < 3);
+        parts = with_start(parts, before, this, k);
         across += one_across(cross, this, to_at(nbr, k));
+        before = this;
         k += 1;
     }
     Parts {
-        first: first,
-        middle: middle,
-        last: last,
+        first: parts.first,
+        middle: parts.middle,
+        last: parts.last,
         across: across,
     }
 }
@@ -99,28 +124,62 @@ pub fn part_stars<'a>(
     }
 }
 
-// Where the part of a kind starts.
-pub fn part_start<'a>(sheet: &'a [u16], ends: &'a [u16], most: usize, i: usize, want: u8) -> usize {
+// Whether a star starts with the first of its entries of kind 0.
+fn starts_above(kind: &[u8], from: usize, end: usize) -> bool {
+    if end <= from {
+        return true;
+    }
+    if kind_at(kind, from) != 0 {
+        return false;
+    }
+    kind_at(kind, end - 1) != 0
+}
+
+// Where the entries of kind 0 start: behind those of kind 3.
+fn above_start(kind: &[u8], from: usize, end: usize, last: usize) -> usize {
+    if starts_above(kind, from, end) {
+        return from;
+    }
+    let mut k = last;
+    let mut n = from;
+    while n < end {
+        if kind_at(kind, k) != 3 {
+            return k;
+        }
+        k = place_after(from, end, k);
+        n += 1;
+    }
+    k
+}
+
+// Where the part of a kind starts, in a star that lies from a place to an end.
+pub fn part_start<'a>(
+    sheet: &'a [u16],
+    kind: &'a [u8],
+    from: usize,
+    end: usize,
+    i: usize,
+    want: u8,
+) -> usize {
     if sides(sheet) <= i {
         return 0;
     }
     match want {
-        0 => start_of(ends, most, i),
+        0 => above_start(kind, from, end, get(sheet, LAST, 4 + i)),
         1 => get(sheet, FIRST, 4 + i),
         2 => get(sheet, MIDDLE, 4 + i),
         _ => get(sheet, LAST, 4 + i),
     }
 }
 
-// Where it ends.
-pub fn part_end<'a>(sheet: &'a [u16], ends: &'a [u16], most: usize, i: usize, want: u8) -> usize {
-    if sides(sheet) <= i {
-        return 0;
-    }
-    match want {
-        0 => get(sheet, FIRST, 4 + i),
-        1 => get(sheet, MIDDLE, 4 + i),
-        2 => get(sheet, LAST, 4 + i),
-        _ => end_of(ends, most, i),
-    }
+// Where it ends: where that of the next kind starts.
+pub fn part_end<'a>(
+    sheet: &'a [u16],
+    kind: &'a [u8],
+    from: usize,
+    end: usize,
+    i: usize,
+    want: u8,
+) -> usize {
+    part_start(sheet, kind, from, end, i, (want % 4 + 1) % 4)
 }

@@ -17,6 +17,8 @@ use crate::sheet::of_side;
 use crate::sheet::put;
 use crate::sheet::sides;
 use crate::sheet::take;
+use stars::held::end_of;
+use stars::held::start_of;
 use stars::held::to_at;
 
 // What is done with a step: it is taken, or, between walls left over, noted as a way back.
@@ -61,21 +63,43 @@ fn step_at<'a>(sheet: &mut [u16], nbr: &'a [u16], low: usize, i: usize, k: usize
     }
 }
 
-// The steps of a room's contacts of one kind.
+// The steps of a room's contacts from a place to an end.
+fn steps_part<'a>(
+    sheet: &mut [u16],
+    nbr: &'a [u16],
+    low: usize,
+    i: usize,
+    first: usize,
+    end: usize,
+    deed: Deed,
+) {
+    let mut k = first;
+    while k < end {
+        step_at(sheet, nbr, low, i, k, deed);
+        k += 1;
+    }
+}
+
+// The steps of a room's contacts of one kind: where they go over the star's end, those behind its start too.
 fn steps_of<'a>(
     sheet: &mut [u16],
     ends: &'a [u16],
     nbr: &'a [u16],
+    kind: &'a [u8],
     low: usize,
     i: usize,
     want: u8,
     deed: Deed,
 ) {
-    let end = part_end(sheet, ends, nbr.len(), i, want);
-    let mut k = part_start(sheet, ends, nbr.len(), i, want);
-    while k < end {
-        step_at(sheet, nbr, low, i, k, deed);
-        k += 1;
+    let from = start_of(ends, nbr.len(), i);
+    let end = end_of(ends, nbr.len(), i);
+    let first = part_start(sheet, kind, from, end, i, want);
+    let stop = part_end(sheet, kind, from, end, i, want);
+    if first < stop {
+        steps_part(sheet, nbr, low, i, first, stop, deed);
+    } else {
+        steps_part(sheet, nbr, low, i, first, end, deed);
+        steps_part(sheet, nbr, low, i, from, stop, deed);
     }
 }
 
@@ -85,6 +109,7 @@ fn from_room<'a>(
     cross: u8,
     ends: &'a [u16],
     nbr: &'a [u16],
+    kind: &'a [u8],
     i: usize,
     deed: Deed,
 ) {
@@ -94,30 +119,51 @@ fn from_room<'a>(
     let low = of_side(sheet, WALL, 2 * (4 + i));
     let high = of_side(sheet, WALL, 2 * (4 + i) + 1);
     step(sheet, low, i, NONE, high, deed);
-    steps_of(sheet, ends, nbr, low, i, cross, deed);
-    steps_of(sheet, ends, nbr, low, i, (cross % 4 + 2) % 4, deed);
+    steps_of(sheet, ends, nbr, kind, low, i, cross, deed);
+    steps_of(sheet, ends, nbr, kind, low, i, (cross % 4 + 2) % 4, deed);
 }
 
 // The steps from every room's low side noted, where they lie between walls left over.
-pub fn note_steps<'a>(sheet: &mut [u16], cross: u8, ends: &'a [u16], nbr: &'a [u16], count: usize) {
+pub fn note_steps<'a>(
+    sheet: &mut [u16],
+    cross: u8,
+    ends: &'a [u16],
+    nbr: &'a [u16],
+    kind: &'a [u8],
+    count: usize,
+) {
     let mut i: usize = 0;
     while i < count {
-        from_room(sheet, cross, ends, nbr, i, Deed::Note);
+        from_room(sheet, cross, ends, nbr, kind, i, Deed::Note);
         i += 1;
     }
 }
 
 // The steps from a side taken, if it is a room's low one.
-fn take_side<'a>(sheet: &mut [u16], cross: u8, ends: &'a [u16], nbr: &'a [u16], side: usize) {
+fn take_side<'a>(
+    sheet: &mut [u16],
+    cross: u8,
+    ends: &'a [u16],
+    nbr: &'a [u16],
+    kind: &'a [u8],
+    side: usize,
+) {
     if side % 2 == 0 {
         if 8 <= side {
-            from_room(sheet, cross, ends, nbr, side / 2 - 4, Deed::Take);
+            from_room(sheet, cross, ends, nbr, kind, side / 2 - 4, Deed::Take);
         }
     }
 }
 
 // The steps from a wall taken.
-fn take_wall<'a>(sheet: &mut [u16], cross: u8, ends: &'a [u16], nbr: &'a [u16], wall: usize) {
+fn take_wall<'a>(
+    sheet: &mut [u16],
+    cross: u8,
+    ends: &'a [u16],
+    nbr: &'a [u16],
+    kind: &'a [u8],
+    wall: usize,
+) {
     if sides(sheet) <= wall {
         return;
     }
@@ -125,7 +171,7 @@ fn take_wall<'a>(sheet: &mut [u16], cross: u8, ends: &'a [u16], nbr: &'a [u16], 
     let mut p = get(sheet, START, wall);
     while p < end {
         let side = of_side(sheet, SIDE, p);
-        take_side(sheet, cross, ends, nbr, side);
+        take_side(sheet, cross, ends, nbr, kind, side);
         p += 1;
     }
 }
@@ -148,7 +194,13 @@ fn take_firsts(sheet: &mut [u16]) {
 }
 
 // The walls taken, each once every wall before it is taken, as far as that goes.
-pub fn take_walls<'a>(sheet: &mut [u16], cross: u8, ends: &'a [u16], nbr: &'a [u16]) {
+pub fn take_walls<'a>(
+    sheet: &mut [u16],
+    cross: u8,
+    ends: &'a [u16],
+    nbr: &'a [u16],
+    kind: &'a [u8],
+) {
     take_firsts(sheet);
     let most = sides(sheet);
     let mut p: usize = 0;
@@ -157,7 +209,7 @@ pub fn take_walls<'a>(sheet: &mut [u16], cross: u8, ends: &'a [u16], nbr: &'a [u
             return;
         }
         let wall = get(sheet, TAKEN, p);
-        take_wall(sheet, cross, ends, nbr, wall);
+        take_wall(sheet, cross, ends, nbr, kind, wall);
         p += 1;
     }
 }

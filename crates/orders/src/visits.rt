@@ -13,8 +13,10 @@ use crate::sheet::get;
 use crate::sheet::of_side;
 use crate::sheet::put_side;
 use crate::sheet::sides;
+use stars::held::end_of;
 use stars::held::kind_at;
 use stars::held::place_in;
+use stars::held::start_of;
 use stars::held::to_at;
 
 // A number laid at a place.
@@ -38,23 +40,15 @@ fn visit(visits: &mut [u16], at: usize, i: usize, k: usize) -> usize
 }
 
 // The place in a room's star of its contact across to the room of star i.
-fn place_of<'a>(
-    sheet: &'a [u16],
-    cross: u8,
-    ends: &'a [u16],
-    nbr: &'a [u16],
-    room: usize,
-    i: usize,
-) -> usize {
-    let from = crate::parts::part_start(sheet, ends, nbr.len(), room, cross);
-    let end = crate::parts::part_end(sheet, ends, nbr.len(), room, cross);
+fn place_of<'a>(ends: &'a [u16], nbr: &'a [u16], room: usize, i: usize) -> usize {
+    let from = start_of(ends, nbr.len(), room);
+    let end = end_of(ends, nbr.len(), room);
     place_in(nbr, from, end, 4 + i % 65536)
 }
 
 // The step visited from the room of star i by the contact at a place, which is of the kind cross in one of two stars; or the room's own.
 fn visit_step<'a>(
     visits: &mut [u16],
-    sheet: &'a [u16],
     cross: u8,
     ends: &'a [u16],
     nbr: &'a [u16],
@@ -76,7 +70,7 @@ fn visit_step<'a>(
     if v < 4 {
         return at;
     }
-    let there = place_of(sheet, cross, ends, nbr, v - 4, i);
+    let there = place_of(ends, nbr, v - 4, i);
     visit(visits, at, v - 4, there)
 }
 
@@ -163,7 +157,7 @@ fn visit_wall<'a>(
     let start = get(sheet, START, wall);
     let end = get(sheet, START, wall % 65536 + 1);
     let side = entered(nbr, star - 1, k);
-    let at = visit_step(visits, sheet, cross, ends, nbr, kind, star - 1, k, first);
+    let at = visit_step(visits, cross, ends, nbr, kind, star - 1, k, first);
     let back = visit_back(visits, sheet, side, at);
     visit_on(visits, sheet, start, end, back)
 }

@@ -3,3 +3,4 @@ pub mod Entries
 pub mod EveryRoom
 pub mod Holding
 pub mod Back
+pub mod Round

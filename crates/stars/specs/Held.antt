@@ -4,9 +4,9 @@ use mathlib.Core.Bool.{Bool, cond, not, _||_}
 use mathlib.Core.List.{List, [], _∷_, map}
 use lib.ListN.{length, getD, set, replicate}
 use lib.Seq.{sets}
-use lib.Dec.{leb, eqb}
+use lib.Dec.{leb, ltb, eqb}
 use Rattle.floor.specs.Lists.{all}
-use Rattle.floor.specs.Jobs.{Entry, Star, Job, opposite, starOf, lists}
+use Rattle.floor.specs.Jobs.{Entry, Star, Link, linksTo, Job, opposite, starOf, lists}
 use Rattle.stars.specs.declared.Stars.{Stars}
 
 -- the neighbour at a place; one byte of it counts
@@ -21,6 +21,18 @@ entryAt nbr kind k = record { to = toAt nbr k; kind = getD kind k 0 }
 unfoldable pub cells : ℕ → ℕ → List ℕ → List ℕ → Star
 cells zero k nbr kind = []
 cells (suc m) k nbr kind = entryAt nbr kind k ∷ cells m (suc k) nbr kind
+
+-- the place behind one of a star that lies from a place to an end; behind the last the first
+unfoldable pub placeAfter : ℕ → ℕ → ℕ → ℕ
+placeAfter start end k = cond (ltb (k + 1) end) (k + 1) start
+
+-- the entry at a place of such a star, and the one that follows it
+unfoldable pub linkAt : ℕ → ℕ → List ℕ → List ℕ → ℕ → Link
+linkAt start end nbr kind k = record { this = entryAt nbr kind k; next = entryAt nbr kind (placeAfter start end k) }
+
+-- the rest of once round such a star, from a place of it on
+unfoldable pub linksFrom : ℕ → ℕ → List ℕ → List ℕ → ℕ → List Link
+linksFrom start end nbr kind k = linksTo (entryAt nbr kind start) (cells (end - k) k nbr kind)
 
 -- where star i ends, of stars that lie in so many places at most
 unfoldable pub endOf : List ℕ → ℕ → ℕ → ℕ

@@ -5,7 +5,7 @@ ghost use Prim.Native.Nat.{_+_, _-_, _≤_, _<_};
 ghost use lib.Dec.{eqb};
 ghost use lib.ListN.{length, getD};
 ghost use Rattle.floor.specs.Jobs.{starOf, names, lists, test6};
-ghost use Rattle.stars.specs.Held.{toAt, entryAt, cells, endOf, startOf, heldStar, jobIn, noStars, placeIn, answers, starAnswers};
+ghost use Rattle.stars.specs.Held.{toAt, entryAt, cells, endOf, startOf, heldStar, jobIn, noStars, placeIn, placeAfter, answers, starAnswers};
 use crate::Stars;
 
 // No stars.
@@ -89,6 +89,19 @@ pub fn place_in(nbr: &[u16], from: usize, end: usize, v: usize) -> usize
         k += 1;
     }
     k
+}
+
+// The place behind one of a star that lies from a place to an end; behind the last the first.
+pub fn place_after(from: usize, end: usize, k: usize) -> usize
+    ensures { λ r. ⌜ r ≡ placeAfter from end k ⌝ }
+{
+    if k < end {
+        let next = k + 1;
+        if next < end {
+            return next;
+        }
+    }
+    from
 }
 
 // Whether the star of a vertex names another; a number that is no room's has no star.

@@ -4,16 +4,18 @@ use mathlib.Core.Path.{_≡_, refl, sym, _∙_}
 use mathlib.Core.Bool.{Bool, true, false, cond, not, _&&_, _||_}
 use mathlib.Core.List.{List, [], _∷_, map}
 use native.Mathlib.Omega.{arith}
+use native.Mathlib.Decide.{decLt}
 use borrow.Author.Tests.{le-leb, lt-leb, leb-true, leb-false, lt-ltb, le-ltb, eq-eqb, ne-eqb, not-true, not-false}
 use lib.Dec.{leb, ltb, eqb}
 use lib.ListN.{length, getD}
-use Rattle.floor.specs.Lists.{keep, isLast}
+use Rattle.floor.specs.Lists.{keep, any}
 use Rattle.floor.specs.Lists.Laws.{bit, and-parts}
-use Rattle.floor.specs.Jobs.{Entry, Star, Job, isVertex, isRoom, starOf, names, kindOf, listOf}
-use Rattle.floor.specs.Turns.{turnedKind, inContact}
-use Rattle.stars.specs.Held.{toAt, entryAt, cells, startOf, endOf, heldStar, jobIn, placeIn}
+use Rattle.floor.specs.Jobs.{Entry, Star, Job, isVertex, isRoom, starOf, names, kindOf, listOf, changes}
+use Rattle.floor.specs.Turns.{endsAt, isLast, turnedKind, inContact}
+use Rattle.stars.specs.Held.{toAt, entryAt, cells, startOf, endOf, heldStar, jobIn, placeIn, placeAfter, linkAt, linksFrom}
 use Rattle.stars.proofs.Holding.{length-stars, star-in, cells-more, cells-done}
-use Rattle.turns.specs.Rewrites.{lastAfter}
+use Rattle.stars.proofs.Round.{links-round}
+use Rattle.turns.specs.InPlace.{placeOf}
 
 -- a number that is a room's
 pub low-room : (n v : ℕ) → v < 4 → false ≡ (leb 4 v && leb v (n + 3))
@@ -95,34 +97,42 @@ kind-place (suc m) k nbr kind v = go (eqb (toAt nbr k) v) (kind-place m (suc k) 
     go true h = rw (lt-ltb k (k + suc m) (omega arith))
     go false h = let s : k + suc m ≡ suc k + m = omega arith in rw s h
 
--- a star that starts at x and ends at y
-module _ (ends nbr kind : List ℕ) (i x y : ℕ) (ex : x ≡ startOf ends (length nbr) i) (ey : y ≡ endOf ends (length nbr) i) where
-  -- its entries from x to y are the held star
-  pub part-star : cells (y - x) x nbr kind ≡ heldStar ends nbr kind i
+-- the place at which a star names a vertex, and the kind there
+pub place-of : (ends nbr : List ℕ) (i v x y p : ℕ) → x ≡ startOf ends (length nbr) i → y ≡ endOf ends (length nbr) i → p ≡ placeIn (y - x) x nbr v
+    → p ≡ placeOf ends nbr i v
+unfolding placeOf
+place-of ends nbr i v x y p ex ey ep = rw (← ex, ← ey) ep
+
+module _ (ends nbr kind : List ℕ) (i v p y : ℕ) (ep : p ≡ placeOf ends nbr i v) (ey : y ≡ endOf ends (length nbr) i) where
+  -- where the star starts
+  abbrev start : ℕ
+  start = startOf ends (length nbr) i
+
+  -- the first place of the star's that names v
+  is-place : p ≡ placeIn (y - start) start nbr v
+  unfolding placeOf
+  is-place = rw ey ep
+
+  -- the kind with which the star names v is that at this place, and 4 where it is none of the star's
+  kind-held : kindOf (heldStar ends nbr kind i) v ≡ cond {A = ℕ} (ltb p (start + (y - start))) (getD kind p 0) 4
   unfolding heldStar
-  part-star = rw (← ex, ← ey)
+  kind-held = rw (← ey, is-place) (kind-place (y - start) start nbr kind v)
 
-  module _ (v p : ℕ) (ep : p ≡ placeIn (y - x) x nbr v) where
-    -- the kind with which they name v is that at the first place that names it, and 4 where none does
-    kind-cells : kindOf (cells (y - x) x nbr kind) v ≡ cond {A = ℕ} (ltb p (x + (y - x))) (getD kind p 0) 4
-    kind-cells = rw ep (kind-place (y - x) x nbr kind v)
+  -- where a place of the star names v, its kind is the one there
+  pub kind-here : (k : ℕ) → p < y → k ≡ getD kind p 0 → k ≡ kindOf (heldStar ends nbr kind i) v
+  kind-here k h e = rw (kind-held, lt-ltb p (start + (y - start)) (omega arith)) e
 
-    -- where a place of the star names v, its kind is the one there
-    pub kind-here : (k : ℕ) → p < y → k ≡ getD kind p 0 → k ≡ kindOf (heldStar ends nbr kind i) v
-    kind-here k h e = rw (← part-star, kind-cells, lt-ltb p (x + (y - x)) (omega arith)) e
-
-    -- where no place of the star names v, the kind is 4
-    pub kind-none : y ≤ p → 4 ≡ kindOf (heldStar ends nbr kind i) v
-    unfolding placeIn
-    kind-none h = rw (← part-star, kind-cells) (go (leb x y) refl)
-      where
-        go : (b : Bool) → leb x y ≡ b → 4 ≡ cond {A = ℕ} (ltb p (x + (y - x))) (getD kind p 0) 4
-        go true t = let l : x ≤ y = leb-true x y t in rw (le-ltb p (x + (y - x)) (omega arith))
-        go false t =
-            let l : y < x = leb-false x y t in
-            let d : y - x ≡ 0 = omega arith in
-            let q : p ≡ x = rw d at ep in
-            rw (le-ltb p (x + (y - x)) (omega arith))
+  -- where no place of the star names v, the kind is 4
+  pub kind-none : y ≤ p → 4 ≡ kindOf (heldStar ends nbr kind i) v
+  unfolding placeIn
+  kind-none h = rw kind-held (go (decLt y start))
+    where
+      go : Dec (y < start) → 4 ≡ cond {A = ℕ} (ltb p (start + (y - start))) (getD kind p 0) 4
+      go (no l) = rw (le-ltb p (start + (y - start)) (omega arith))
+      go (yes l) =
+          let d : y - start ≡ 0 = omega arith in
+          let q : p ≡ start = rw d at is-place in
+          rw (le-ltb p (start + (y - start)) (omega arith))
 
 -- above or to the right
 pub leads-up : (k : ℕ) → k ≡ 0 → true ≡ (eqb k 0 || eqb k 3)
@@ -154,67 +164,49 @@ module _ (kind : List ℕ) (k x want : ℕ) (e : x ≡ getD kind k 0) where
   pub one-no : (x ≡ want → ⊥) → (0 ≡ bit (eqb (getD kind k 0) want)) × (0 ≤ 1)
   one-no q = (rw (← e, ne-eqb x want q), omega arith)
 
-  -- behind an entry of the kind, the last of them is v exactly if that entry names v
-  pub last-yes : (nbr : List ℕ) (y v : ℕ) (b : Bool) → x ≡ want → y ≡ toAt nbr k → eqb y v ≡ cond (eqb (getD kind k 0) want) (eqb (toAt nbr k) v) b
-  last-yes nbr y v b q f = rw (← e, eq-eqb x want q, f)
+-- the entry at a place, and the one behind it
+module _ (nbr kind : List ℕ) (first end k v x : ℕ) (ex : x ≡ toAt nbr k) where
+  -- an entry that names another vertex is no end of v's list
+  pub ends-elsewhere : (x ≡ v → ⊥) → false ≡ endsAt v (linkAt first end nbr kind k)
+  unfolding endsAt linkAt entryAt
+  ends-elsewhere n = rw (← ex, ne-eqb x v n)
 
-  -- behind an entry of another kind, it is as it was before
-  pub last-no : (nbr : List ℕ) (v : ℕ) (b : Bool) → (x ≡ want → ⊥) → b ≡ cond (eqb (getD kind k 0) want) (eqb (toAt nbr k) v) b
-  last-no nbr v b q = rw (← e, ne-eqb x want q)
+  -- an entry that names v is the end of its list exactly if the kind behind it is another
+  pub ends-here : (n c d : ℕ) → x ≡ v → n ≡ placeAfter first end k → c ≡ getD kind k 0 → d ≡ getD kind n 0
+      → not (eqb c d) ≡ endsAt v (linkAt first end nbr kind k)
+  unfolding endsAt linkAt entryAt changes
+  ends-here n c d e en ec ed = rw (← ex, eq-eqb x v e, ← en, ← ec, ← ed)
+
+-- a star that starts at x and ends at y
+module _ (ends nbr kind : List ℕ) (i x y : ℕ) (ex : x ≡ startOf ends (length nbr) i) (ey : y ≡ endOf ends (length nbr) i) where
+  -- its entries from x to y are the held star
+  part-star : cells (y - x) x nbr kind ≡ heldStar ends nbr kind i
+  unfolding heldStar
+  part-star = rw (← ex, ← ey)
+
+  -- once round it, v is last of its list where it ends at some place
+  pub last-first : (v : ℕ) → any (endsAt v) (linksFrom x y nbr kind x) ≡ isLast (heldStar ends nbr kind i) v
+  unfolding isLast
+  last-first v = rw (← part-star, links-round nbr kind x y)
+
+  -- the entries of a kind, counted: what is known and what is left give the whole
+  pub many-first : (want : ℕ) → 0 + length (listOf (cells (y - x) x nbr kind) want) ≡ length (listOf (heldStar ends nbr kind i) want)
+  many-first want = rw part-star (omega arith)
 
 -- the list of a kind, entry by entry
-list-cons : (e : Entry) (s : Star) (k : ℕ) → listOf (e ∷ s) k ≡ cond (eqb (e .kind) k) (e .to ∷ listOf s k) (listOf s k)
-unfolding listOf keep
-list-cons e s k = go (eqb (e .kind) k)
-  where
-    go : (b : Bool) → map (λ (d : Entry). d .to) (cond b (e ∷ keep (λ d. eqb (d .kind) k) s) (keep (λ d. eqb (d .kind) k) s))
-        ≡ cond b (e .to ∷ map (λ (d : Entry). d .to) (keep (λ d. eqb (d .kind) k) s)) (map (λ (d : Entry). d .to) (keep (λ d. eqb (d .kind) k) s))
-    go true = refl
-    go false = refl
-
--- a star without entries has no list
 list-nil : (k : ℕ) → listOf [] k ≡ []
 unfolding listOf keep
 list-nil k = refl
 
 -- an entry of the kind makes its list one longer, any other leaves it
 many-cons : (e : Entry) (s : Star) (k : ℕ) → length (listOf (e ∷ s) k) ≡ bit (eqb (e .kind) k) + length (listOf s k)
-many-cons e s k = rw (list-cons e s k) (go (eqb (e .kind) k))
+unfolding listOf keep
+many-cons e s k = go (eqb (e .kind) k)
   where
-    go : (b : Bool) → length (cond b (e .to ∷ listOf s k) (listOf s k)) ≡ bit b + length (listOf s k)
+    go : (b : Bool) → length (map (λ (d : Entry). d .to) (cond b (e ∷ keep (λ d. eqb (d .kind) k) s) (keep (λ d. eqb (d .kind) k) s)))
+        ≡ bit b + length (map (λ (d : Entry). d .to) (keep (λ d. eqb (d .kind) k) s))
     go true = omega arith
     go false = omega arith
-
--- where nothing stands before, what is last is last
-last-after : (v : ℕ) (l : List ℕ) → lastAfter false v l ≡ isLast v l
-unfolding lastAfter isLast
-last-after v [] = refl
-last-after v (x ∷ l) = go x l
-  where
-    go : (x : ℕ) (l : List ℕ) → lastAfter (eqb x v) v l ≡ isLast v (x ∷ l)
-    go x [] = refl
-    go x (y ∷ l) = go y l
-
--- whether v is last: an entry of the kind decides it anew, any other leaves it as it was
-last-cons : (b : Bool) (v k : ℕ) (e : Entry) (s : Star) → lastAfter b v (listOf (e ∷ s) k) ≡ lastAfter (cond (eqb (e .kind) k) (eqb (e .to) v) b) v (listOf s k)
-unfolding lastAfter
-last-cons b v k e s = rw (list-cons e s k) (go (eqb (e .kind) k))
-  where
-    go : (t : Bool) → lastAfter b v (cond t (e .to ∷ listOf s k) (listOf s k)) ≡ lastAfter (cond t (eqb (e .to) v) b) v (listOf s k)
-    go true = refl
-    go false = refl
-
--- the entries of a kind counted, and the last of them: what is known and what is left give the whole
-module _ (ends nbr kind : List ℕ) (i want y : ℕ) where
-  -- at the start all the entries of the star are left to count
-  pub many-first : (x : ℕ) → x ≡ startOf ends (length nbr) i → y ≡ endOf ends (length nbr) i
-      → 0 + length (listOf (cells (y - x) x nbr kind) want) ≡ length (listOf (heldStar ends nbr kind i) want)
-  many-first x ex ey = rw (part-star ends nbr kind i x y ex ey) (omega arith)
-
-  -- at the start all the entries of the star are left to look at
-  pub last-first : (x v : ℕ) → x ≡ startOf ends (length nbr) i → y ≡ endOf ends (length nbr) i
-      → lastAfter false v (listOf (cells (y - x) x nbr kind) want) ≡ isLast v (listOf (heldStar ends nbr kind i) want)
-  last-first x v ex ey = rw (part-star ends nbr kind i x y ex ey) (last-after v (listOf (heldStar ends nbr kind i) want))
 
 module _ (nbr kind : List ℕ) (want y k : ℕ) where
   -- the next entry counted, those behind it are left
@@ -232,15 +224,3 @@ module _ (nbr kind : List ℕ) (want y k : ℕ) where
   many-done n w h inv =
       let c : n + length {A = ℕ} [] ≡ w = rw (cells-done nbr kind y k h, list-nil want) at inv in
       omega arith
-
-  -- the next entry looked at, those behind it are left
-  pub last-more : (a b w : Bool) (v : ℕ) → b ≡ cond (eqb (getD kind k 0) want) (eqb (toAt nbr k) v) a → k < y
-      → lastAfter a v (listOf (cells (y - k) k nbr kind) want) ≡ w → lastAfter b v (listOf (cells (y - (k + 1)) (k + 1) nbr kind) want) ≡ w
-  unfolding entryAt
-  last-more a b w v e h inv =
-      rw e (sym (last-cons a v want (entryAt nbr kind k) (cells (y - (k + 1)) (k + 1) nbr kind)) ∙ (rw (cells-more nbr kind y k h) at inv))
-
-  -- behind the last entry, what is known is the answer
-  pub last-done : (a w : Bool) (v : ℕ) → y ≤ k → lastAfter a v (listOf (cells (y - k) k nbr kind) want) ≡ w → a ≡ w
-  unfolding lastAfter
-  last-done a w v h inv = rw (cells-done nbr kind y k h, list-nil want) at inv

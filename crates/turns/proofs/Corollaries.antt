@@ -17,8 +17,7 @@ same-said (Stops k) (Swings u v t) e = absurd (let z : _≡_ {A = ℕ} 0 1 = cc 
 same-said (Swings u v t) (Stops k) e = absurd (let z : _≡_ {A = ℕ} 0 1 = cc in omega arith)
 same-said (Swings u v t) (Swings w x s) e = let p : u ≡ w = cc in let q : v ≡ x = cc in let r : t ≡ s = cc in cc
 
--- THE PROMISE OF `turn_held` ALLOWS ONE ANSWER AND ONE CONTENT OF EACH LIST
-pub one-turning : (c : ℕ) (ends nbr kind : List ℕ) (u v : ℕ) (tos kinds : List ℕ) (a b : Said) (x y p q : List ℕ)
-    → Promised c ends nbr kind u v tos kinds a x y → Promised c ends nbr kind u v tos kinds b p q → (a ≡ b) × (x ≡ p) × (y ≡ q)
-one-turning c ends nbr kind u v tos kinds a b x y p q e f =
-    (same-said a b (e .0 ∙ sym (f .0)), one-answer x p _ (e .1) (f .1), one-answer y q _ (e .2) (f .2))
+-- THE PROMISE OF `turn_held` ALLOWS ONE ANSWER AND ONE CONTENT OF THE KINDS
+pub one-turning : (c : ℕ) (ends nbr kind : List ℕ) (u v : ℕ) (a b : Said) (x y : List ℕ) → Promised c ends nbr kind u v a x → Promised c ends nbr kind u v b y
+    → (a ≡ b) × (x ≡ y)
+one-turning c ends nbr kind u v a b x y e f = (same-said a b (e .0 ∙ sym (f .0)), one-answer x y _ (e .1) (f .1))

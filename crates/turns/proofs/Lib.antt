@@ -1,6 +1,4 @@
 mod Contacts
-mod Shifts
-mod Rewriting
-pub mod Corollaries
 pub mod Placing
 pub mod TurnedStars
+pub mod Corollaries

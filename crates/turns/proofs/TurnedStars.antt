@@ -1,32 +1,146 @@
 -- The stars that hold a job, turned where they stand, hold the turned job. Assumes nothing.
 use Prim.Native.Nat.{ℕ, zero, suc, _+_, _-_, _<_, _≤_}
 use mathlib.Core.Path.{_≡_, refl, sym, ap, _∙_}
-use mathlib.Core.List.{List, [], _∷_, _++_, map, append-assoc}
+use mathlib.Core.Logic.{_⊎_, inl, inr}
+use mathlib.Core.Bool.{Bool, true, false, cond, _&&_}
+use mathlib.Core.List.{List, [], _∷_, map, List·Memᴰ}
 use native.Mathlib.Omega.{arith}
-use borrow.Author.Tests.{le-leb}
-use lib.ListN.{length, getD, take, drop, set, length-append, length-map, length-set, length-replicate, replicate}
-use lib.Seq.{sets, sets-eq, length-sets, getD-set-same, getD-set-other}
+use borrow.Author.Tests.{eqb-true}
+use lib.Dec.{eqb}
+use lib.ListN.{length, getD, take, set, length-map, length-set, length-replicate, replicate}
+use lib.Seq.{sets, length-sets, getD-set-same, getD-set-other, set-set, set-comm}
 use Rattle.floor.specs.Lists.{sum}
-use Rattle.floor.specs.Jobs.{Entry, Star, Job, starOf, opposite, pairsIn}
-use Rattle.floor.specs.Turns.{rekinded}
-use Rattle.fields.proofs.Puts.{sets-append}
+use Rattle.floor.specs.Lists.Laws.{bit, and-right, count-nil, count-cons, any-mem}
+use Rattle.floor.specs.Jobs.{Entry, Star, Job, Room, isRoom, starOf, names, opposite, pairsIn}
+use Rattle.floor.specs.Jobs.Stars.{entry, named}
+use Rattle.floor.specs.Jobs.Facts.{Passes, star-room}
+use Rattle.floor.specs.Turns.{withKind, inContact}
 use Rattle.stars.specs.declared.Stars.{Stars}
-use Rattle.stars.specs.Held.{endOf, startOf, jobOf, noStars, toOf, kindOf as kindIn, putStar, putAll, heldOf}
-use Rattle.turns.specs.Rewrites.{twoTurned}
-use Rattle.turns.specs.InPlace.{swings, swingOf, bothPut, twoPut}
-use Rattle.turns.proofs.Rewriting.{behind, in-front, length-rekinded, same-size}
-use Rattle.turns.proofs.Placing.{of-rooms}
+use Rattle.stars.specs.Held.{toAt, entryAt, cells, endOf, startOf, heldStar, jobOf, noStars, placeIn, toOf, kindOf, putStar, putAll, heldOf}
+use Rattle.stars.proofs.Holding.{length-stars, star-in}
+use Rattle.turns.specs.InPlace.{swings, swingOf, twoTurned, placeOf, twoSet, twoPut}
+use Rattle.turns.proofs.Contacts.{Rooms, contact-rooms}
+use Rattle.turns.proofs.Placing.{swung}
 
--- one number of every entry of a job, in order
-flat : (Entry → ℕ) → Job → List ℕ
-flat f [] = []
-flat f (s ∷ j) = map f s ++ flat f j
+-- the neighbours stay as they were where one kind changes
+tos-same : (s : Star) (v t : ℕ) → map toOf (withKind s v t) ≡ map toOf s
+unfolding withKind
+tos-same [] v t = refl
+tos-same (e ∷ s) v t = go (eqb (e .to) v) refl (tos-same s v t)
+  where
+    go : (b : Bool) → eqb (e .to) v ≡ b → map toOf (withKind s v t) ≡ map toOf s
+        → cond b (entry v t) e .to ∷ map toOf (withKind s v t) ≡ e .to ∷ map toOf s
+    go true q h = rw (eqb-true (e .to) v q, h)
+    go false q h = rw h
 
--- as many numbers as the job has pairs
-length-flat : (f : Entry → ℕ) (j : Job) → length (flat f j) ≡ pairsIn j
-unfolding pairsIn sum flat
-length-flat f [] = refl
-length-flat f (s ∷ j) = omega (arith, length-append (map f s) (flat f j), length-map s f, length-flat f j)
+-- as many entries
+same-length : (s : Star) (v t : ℕ) → length (withKind s v t) ≡ length s
+unfolding withKind
+same-length s v t = length-map s _
+
+-- where some numbers have v first
+index : ℕ → List ℕ → ℕ
+index v [] = 0
+index v (x ∷ xs) = cond (eqb x v) 0 (suc (index v xs))
+
+-- the place of v in star i, where the stars lie one behind the other
+place : Job → ℕ → ℕ → ℕ
+place j i v = pairsIn (take i j) + index v (map toOf (getD j i []))
+
+-- it stays where a kind changes
+place-same : (j : Job) (i v t k w : ℕ) → place (set j i (withKind (getD j i []) v t)) k w ≡ place j k w
+unfolding place pairsIn sum
+place-same [] i v t k w = refl
+place-same (s ∷ j) zero v t zero w = rw (tos-same s v t)
+place-same (s ∷ j) zero v t (suc k) w = rw (same-length s v t)
+place-same (s ∷ j) (suc i) v t zero w = refl
+place-same (s ∷ j) (suc i) v t (suc k) w = omega (arith, place-same j i v t k w)
+
+-- a star that does not name v stays as it was
+not-named : (s : Star) (v t : ℕ) → named v s ≡ 0 → withKind s v t ≡ s
+unfolding withKind
+not-named [] v t h = refl
+not-named (e ∷ s) v t h = go (eqb (e .to) v) (count-cons (λ (d : Entry). eqb (d .to) v) e s) (not-named s v t)
+  where
+    go : (b : Bool) → named v (e ∷ s) ≡ bit b + named v s → (named v s ≡ 0 → withKind s v t ≡ s) → cond b (entry v t) e ∷ withKind s v t ≡ e ∷ s
+    go true c f = absurd (omega arith)
+    go false c f = rw (f (omega arith))
+
+-- a star that names v once has it at one of its places
+index-in : (s : Star) (v : ℕ) → named v s ≡ 1 → index v (map toOf s) < length s
+unfolding index
+index-in [] v h = absurd (omega (arith, count-nil (λ (d : Entry). eqb (d .to) v)))
+index-in (e ∷ s) v h = go (eqb (e .to) v) (count-cons (λ (d : Entry). eqb (d .to) v) e s) (index-in s v)
+  where
+    go : (b : Bool) → named v (e ∷ s) ≡ bit b + named v s → (named v s ≡ 1 → index v (map toOf s) < length s)
+        → cond b 0 (suc (index v (map toOf s))) < suc (length s)
+    go true c f = omega arith
+    go false c f = omega (arith, f (omega arith))
+
+-- a number set in front of others that are put
+set-before : (l : List ℕ) (p t m : ℕ) (vs : List ℕ) → p < m → sets (set l p t) m vs ≡ set (sets l m vs) p t
+set-before l p t m [] h = refl
+set-before l p t m (v ∷ vs) h = rw (set-comm l p m t v (λ e. omega arith)) (set-before (set l m v) p t (suc m) vs (omega arith))
+
+-- ONE KIND OF A STAR IS ONE NUMBER among the kinds
+one-set : (s : Star) (v t m : ℕ) (l : List ℕ) → named v s ≡ 1
+    → sets l m (map kindOf (withKind s v t)) ≡ set (sets l m (map kindOf s)) (m + index v (map toOf s)) t
+unfolding withKind index
+one-set [] v t m l h = absurd (omega (arith, count-nil (λ (d : Entry). eqb (d .to) v)))
+one-set (e ∷ s) v t m l h = go (eqb (e .to) v) (count-cons (λ (d : Entry). eqb (d .to) v) e s) (one-set s v t (suc m) (set l m (e .kind)))
+  where
+    go : (b : Bool) → named v (e ∷ s) ≡ bit b + named v s
+        → (named v s ≡ 1 → sets (set l m (e .kind)) (suc m) (map kindOf (withKind s v t))
+        ≡ set (sets (set l m (e .kind)) (suc m) (map kindOf s)) (suc m + index v (map toOf s)) t)
+        → sets (set l m (cond b (entry v t) e .kind)) (suc m) (map kindOf (withKind s v t))
+        ≡ set (sets (set l m (e .kind)) (suc m) (map kindOf s)) (m + cond b 0 (suc (index v (map toOf s)))) t
+    go true c f =
+        let z : m + 0 ≡ m = omega arith in
+        rw (not-named s v t (omega arith), z, ← set-before (set l m (e .kind)) m t (suc m) (map kindOf s) (omega arith), set-set l m (e .kind) t)
+    go false c f =
+        let z : m + suc (index v (map toOf s)) ≡ suc m + index v (map toOf s) = omega arith in
+        rw z (f (omega arith))
+
+-- the stars with one kind set
+abbrev kindSet : Stars → ℕ → ℕ → Stars
+kindSet h p t = record { count = h .count; ends = h .ends; nbr = h .nbr; kind = set (h .kind) p t }
+
+-- a kind set before more stars are put
+put-before : (h : Stars) (p t m : ℕ) (j : Job) → p < m → putAll (kindSet h p t) m j ≡ kindSet (putAll h m j) p t
+unfolding putAll putStar
+put-before h p t m [] l = refl
+put-before h p t m (s ∷ j) l = rw (set-before (h .kind) p t m (map kindOf s) l) (put-before (putStar h m s) p t (m + length s) j (omega arith))
+
+-- a kind set in the star that is put
+star-set : (h : Stars) (m : ℕ) (s : Star) (v t : ℕ) → named v s ≡ 1 → putStar h m (withKind s v t) ≡ kindSet (putStar h m s) (m + index v (map toOf s)) t
+unfolding putStar
+star-set h m s v t n =
+    same (ap (λ (k : ℕ). set (h .ends) (h .count) (m + k)) (same-length s v t)) (ap (sets (h .nbr) m) (tos-same s v t)) (one-set s v t m (h .kind) n)
+  where
+    same : {c : ℕ} {e e′ x x′ k k′ : List ℕ} → e ≡ e′ → x ≡ x′ → k ≡ k′
+        → _≡_ {A = Stars} (record { count = c; ends = e; nbr = x; kind = k }) (record { count = c; ends = e′; nbr = x′; kind = k′ })
+    same p q r = cc
+
+-- ONE KIND OF A JOB IS ONE KIND OF ITS STARS
+put-set : (j : Job) (i v t : ℕ) (h : Stars) (m : ℕ) → i < length j → named v (getD j i []) ≡ 1
+    → putAll h m (set j i (withKind (getD j i []) v t)) ≡ kindSet (putAll h m j) (m + place j i v) t
+unfolding putAll place pairsIn sum
+put-set [] i v t h m l n = absurd (omega arith)
+put-set (s ∷ j) zero v t h m l n =
+    let z : m + index v (map toOf s) ≡ m + (0 + index v (map toOf s)) = omega arith in
+    ap (λ (k : ℕ). putAll (putStar h m (withKind s v t)) (m + k) j) (same-length s v t) ∙ ap (λ (x : Stars). putAll x (m + length s) j) (star-set h m s v t n)
+    ∙ put-before (putStar h m s) (m + index v (map toOf s)) t (m + length s) j (omega (arith, index-in s v n))
+    ∙ ap (λ (p : ℕ). kindSet (putAll (putStar h m s) (m + length s) j) p t) z
+put-set (s ∷ j) (suc i) v t h m l n =
+    let z : m + (length s + pairsIn (take i j) + index v (map toOf (getD j i []))) ≡ m + length s + (pairsIn (take i j) + index v (map toOf (getD j i []))) =
+    omega arith in
+    rw z (put-set j i v t (putStar h m s) (m + length s) (omega arith) n)
+
+-- so it is in the stars that hold the job
+held-set : (j : Job) (i v t : ℕ) → i < length j → named v (getD j i []) ≡ 1
+    → heldOf (set j i (withKind (getD j i []) v t)) ≡ kindSet (heldOf j) (place j i v) t
+unfolding heldOf
+held-set j i v t l n = let z : 0 + place j i v ≡ place j i v = omega arith in rw z at (put-set j i v t noStars 0 l n)
 
 -- the ends of a job's stars, put from place c on
 endsFrom : List ℕ → ℕ → ℕ → Job → List ℕ
@@ -34,42 +148,16 @@ endsFrom e c m [] = e
 endsFrom e c m (s ∷ j) = endsFrom (set e c (m + length s)) (c + 1) (m + length s) j
 
 -- what the stars that hold a job have in them
-all-count : (h : Stars) (m : ℕ) (j : Job) → putAll h m j .count ≡ h .count + length j
-unfolding putAll putStar
-all-count h m [] = omega arith
-all-count h m (s ∷ j) = all-count (putStar h m s) (m + length s) j ∙ omega arith
-
--- the ends of the job's stars, behind those that were there
 all-ends : (h : Stars) (m : ℕ) (j : Job) → putAll h m j .ends ≡ endsFrom (h .ends) (h .count) m j
 unfolding putAll putStar endsFrom
 all-ends h m [] = refl
 all-ends h m (s ∷ j) = all-ends (putStar h m s) (m + length s) j
 
--- the neighbours of all its entries, from place m on
-all-nbr : (h : Stars) (m : ℕ) (j : Job) → putAll h m j .nbr ≡ sets (h .nbr) m (flat toOf j)
-unfolding putAll putStar flat
-all-nbr h m [] = refl
-all-nbr h m (s ∷ j) = all-nbr (putStar h m s) (m + length s) j ∙ rw (← length-map s toOf) (sym (sets-append (h .nbr) m (map toOf s) (flat toOf j)))
-
--- the kinds of all its entries, from place m on
-all-kind : (h : Stars) (m : ℕ) (j : Job) → putAll h m j .kind ≡ sets (h .kind) m (flat kindIn j)
-unfolding putAll putStar flat
-all-kind h m [] = refl
-all-kind h m (s ∷ j) = all-kind (putStar h m s) (m + length s) j ∙ rw (← length-map s kindIn) (sym (sets-append (h .kind) m (map kindIn s) (flat kindIn j)))
-
--- a star as long in another's stead: the ends stay
-ends-same : (e : List ℕ) (c m : ℕ) (j : Job) (i : ℕ) (s : Star) → length s ≡ length (getD j i []) → endsFrom e c m (set j i s) ≡ endsFrom e c m j
-unfolding endsFrom
-ends-same e c m [] i s q = refl
-ends-same e c m (t ∷ j) zero s q = ap (λ (n : ℕ). endsFrom (set e c (m + n)) (c + 1) (m + n) j) q
-ends-same e c m (t ∷ j) (suc i) s q = ends-same (set e c (m + length t)) (c + 1) (m + length t) j i s q
-
--- a star as long in another's stead: the number of pairs stays
-pairs-same : (j : Job) (i : ℕ) (s : Star) → length s ≡ length (getD j i []) → pairsIn (set j i s) ≡ pairsIn j
-unfolding pairsIn sum
-pairs-same [] i s q = refl
-pairs-same (t ∷ j) zero s q = rw q
-pairs-same (t ∷ j) (suc i) s q = rw (pairs-same j i s q)
+-- as many places for neighbours as there were
+all-places : (h : Stars) (m : ℕ) (j : Job) → length (putAll h m j .nbr) ≡ length (h .nbr)
+unfolding putAll putStar
+all-places h m [] = refl
+all-places h m (s ∷ j) = all-places (putStar h m s) (m + length s) j ∙ length-sets (h .nbr) m (map toOf s)
 
 -- where star i starts: behind the pairs before it
 ends-below : (e : List ℕ) (c m k : ℕ) (j : Job) → k < c → getD (endsFrom e c m j) k 0 ≡ getD e k 0
@@ -103,93 +191,84 @@ none-before : pairsIn [] ≡ 0
 unfolding pairsIn sum
 none-before = refl
 
-module _ (j : Job) (few : length j ≤ 60) (small : pairsIn j ≤ 360) where
+-- the first place of a part that names v
+place-index : (m k : ℕ) (nbr kind : List ℕ) (v : ℕ) → placeIn m k nbr v ≡ k + index v (map toOf (cells m k nbr kind))
+unfolding placeIn cells entryAt index
+place-index zero k nbr kind v = omega arith
+place-index (suc m) k nbr kind v = go (eqb (toAt nbr k) v) (place-index m (suc k) nbr kind v)
+  where
+    go : (b : Bool) → placeIn m (suc k) nbr v ≡ suc k + index v (map toOf (cells m (suc k) nbr kind))
+        → cond b k (placeIn m (suc k) nbr v) ≡ k + cond b 0 (suc (index v (map toOf (cells m (suc k) nbr kind))))
+    go true f = omega arith
+    go false f = omega arith
+
+module _ (j : Job) (few : length j ≤ 60) (small : pairsIn j ≤ 360) (back : jobOf (heldOf j) ≡ j) where
   -- of a job that is held, star i starts behind the pairs of the stars before it
   held-start : (i : ℕ) → i < length j → startOf (heldOf j .ends) (length (heldOf j .nbr)) i ≡ pairsIn (take i j)
   unfolding heldOf noStars startOf endOf
   held-start zero h = sym none-before
   held-start (suc i) h =
       let l = length-replicate {A = ℕ} 60 0 in
-      let n : length (sets (replicate 360 0) 0 (flat toOf j)) ≡ 360 = long in
+      let n : length (putAll noStars 0 j .nbr) ≡ 360 = all-places noStars 0 j ∙ length-replicate {A = ℕ} 360 0 in
       let z : 0 + i ≡ i = omega arith in
       let e : getD (endsFrom (replicate 60 0) 0 0 j) i 0 ≡ pairsIn (take (suc i) j) =
       ap (λ (k : ℕ). getD (endsFrom (replicate 60 0) 0 0 j) k 0) (sym z) ∙ end-at (replicate 60 0) 0 0 i j (omega arith) (omega arith) ∙ omega arith in
-      rw (all-ends noStars 0 j, all-nbr noStars 0 j, n, e) (omega (arith, pairs-before j (suc i)))
-    where
-      long : length (sets (replicate 360 0) 0 (flat toOf j)) ≡ 360
-      long = length-sets (replicate 360 0) 0 (flat toOf j) ∙ length-replicate {A = ℕ} 360 0
+      rw (n, all-ends noStars 0 j, e) (omega (arith, pairs-before j (suc i)))
 
--- numbers put over as many
-over-flat : (f : Entry → ℕ) (j : Job) (i : ℕ) (s : Star) (rest : List ℕ) → i < length j → length s ≡ length (getD j i [])
-    → sets (flat f j ++ rest) (pairsIn (take i j)) (map f s) ≡ flat f (set j i s) ++ rest
-unfolding pairsIn sum flat
-over-flat f [] i s rest h q = absurd (omega arith)
-over-flat f (t ∷ j) zero s rest h q =
-    let l : length (map f t) ≡ length (map f s) = length-map t f ∙ sym q ∙ sym (length-map s f) in
-    rw (append-assoc (map f t) (flat f j) rest, append-assoc (map f s) (flat f j) rest) (in-front (map f t) (map f s) (flat f j ++ rest) l)
-over-flat f (t ∷ j) (suc i) s rest h q =
-    rw (append-assoc (map f t) (flat f j) rest, append-assoc (map f t) (flat f (set j i s)) rest, ← length-map t f)
-    (behind (map f t) (flat f j ++ rest) (pairsIn (take i j)) (map f s) ∙ rw (over-flat f j i s rest (omega arith) q))
+  -- the held star is the job's
+  held-star : (i : ℕ) → i < length j → heldStar (heldOf j .ends) (heldOf j .nbr) (heldOf j .kind) i ≡ getD j i []
+  unfolding jobOf
+  held-star i h =
+      let c : length j ≡ heldOf j .count =
+      ap length (sym back) ∙ length-stars (heldOf j .count) 0 (heldOf j .ends) (heldOf j .nbr) (heldOf j .kind) in
+      let z : 0 + i ≡ i = omega arith in
+      (rw z at (sym (star-in (heldOf j .count) 0 i (heldOf j .ends) (heldOf j .nbr) (heldOf j .kind) (omega arith)))) ∙ ap (λ (k : Job). getD k i []) back
 
--- a star's numbers put where star i of the job stands: the numbers of the job with that star, put at the front
-over-held : (f : Entry → ℕ) (j : Job) (i : ℕ) (s : Star) (z : List ℕ) → pairsIn j ≤ length z → i < length j → length s ≡ length (getD j i [])
-    → sets (sets z 0 (flat f j)) (pairsIn (take i j)) (map f s) ≡ sets z 0 (flat f (set j i s))
-over-held f j i s z l h q =
-    let n : length (flat f (set j i s)) ≡ length (flat f j) = length-flat f (set j i s) ∙ pairs-same j i s q ∙ sym (length-flat f j) in
-    let a : sets z 0 (flat f j) ≡ flat f j ++ drop (length (flat f j)) z = front (flat f j) (omega (arith, length-flat f j)) in
-    let b : sets z 0 (flat f (set j i s)) ≡ flat f (set j i s) ++ drop (length (flat f (set j i s))) z =
-    front (flat f (set j i s)) (omega (arith, n, length-flat f j)) in
-    rw (a, b, n) (over-flat f j i s (drop (length (flat f j)) z) h q)
+  -- the place at which it names v
+  held-place : (i v : ℕ) → i < length j → placeOf (heldOf j .ends) (heldOf j .nbr) i v ≡ place j i v
+  unfolding placeOf place heldStar
+  held-place i v h =
+      let s : ℕ = startOf (heldOf j .ends) (length (heldOf j .nbr)) i in
+      place-index (endOf (heldOf j .ends) (length (heldOf j .nbr)) i - s) s (heldOf j .nbr) (heldOf j .kind) v ∙ rw (held-star i h, held-start i h)
+
+  -- both kinds of a contact
+  held-two : (a b t : ℕ) → Rooms (length j) a b → (a ≡ b → ⊥) → named b (starOf j a) ≡ 1 → named a (starOf j b) ≡ 1
+      → twoPut (heldOf j) a b t ≡ heldOf (twoTurned j a b t)
+  unfolding twoPut twoSet twoTurned
+  held-two a b t (la, ka, lb, kb) ne na nb =
+      let one : Job = set j (a - 4) (withKind (getD j (a - 4) []) b t) in
+      let w : getD one (b - 4) [] ≡ getD j (b - 4) [] = getD-set-other j (a - 4) (b - 4) (withKind (getD j (a - 4) []) b t) [] (λ e. ne (omega arith)) in
+      let n : length one ≡ length j = length-set j (a - 4) (withKind (getD j (a - 4) []) b t) in
+      let x : named b (getD j (a - 4) []) ≡ 1 = rw (star-room j a la) at na in
+      let y : named a (getD j (b - 4) []) ≡ 1 = rw (star-room j b lb) at nb in
+      let second = held-set one (b - 4) a (opposite t) (omega arith) (rw w y) in
+      rw (
+        star-room j a la,
+        star-room j b lb,
+        held-place (a - 4) b (omega arith),
+        held-place (b - 4) a (omega arith),
+        ← place-same j (a - 4) b t (b - 4) a,
+      )
+      (sym (rw (w, held-set j (a - 4) b t (omega arith) x) at second))
+
+-- two rooms in contact name each other once
+met : (j : Job) → Passes j → (u v : ℕ) → inContact j u v ≡ true → (u ≡ v → ⊥) × (named v (starOf j u) ≡ 1) × (named u (starOf j v) ≡ 1)
+unfolding inContact names
+met j ok u v c =
+    let (lu, ku, lv, kv) = contact-rooms j u v c in
+    let (e, m, q) = any-mem (λ (d : Entry). eqb (d .to) v) (starOf j u) (and-right (isRoom j u && isRoom j v) _ c) in
+    let is : e .to ≡ v = eqb-true (e .to) v q in
+    let ru : Room j u = (lu, omega arith) in
+    let rv : Room j v = (lv, omega arith) in
+    let o : List·Memᴰ (entry u (opposite (e .kind))) (starOf j v) = rw is at (ok .opposed u ru e m (omega arith)) in
+    (λ z. ok .entries u ru e m .other (is ∙ sym z), rw is at (ok .good u ru .once e m), ok .good v rv .once _ o)
+
+-- THE STARS OF A JOB, TURNED, ARE THE STARS OF THE TURNED JOB
+pub held-turned : (j : Job) → length j ≤ 60 → pairsIn j ≤ 360 → jobOf (heldOf j) ≡ j → Passes j → (u v a b t : ℕ) → swingOf j u v ≡ swings a b t
+    → twoPut (heldOf j) a b t ≡ heldOf (twoTurned j a b t)
+held-turned j few small back ok u v a b t f = let (c, w) = swung j u v a b t f in which w (contact-rooms j u v c) (met j ok u v c)
   where
-    front : (x : List ℕ) → length x ≤ length z → sets z 0 x ≡ x ++ drop (length x) z
-    front x k = let e : 0 + length x ≡ length x = omega arith in sets-eq x z 0 (omega arith) ∙ rw e
-
--- stars with the same count, ends, neighbours and kinds are one
-same-stars : (c c′ : ℕ) (e e′ n n′ k k′ : List ℕ) → c ≡ c′ → e ≡ e′ → n ≡ n′ → k ≡ k′
-    → _≡_ {A = Stars} (record { count = c; ends = e; nbr = n; kind = k }) (record { count = c′; ends = e′; nbr = n′; kind = k′ })
-same-stars c c′ e e′ n n′ k k′ p q r s = rw (p, q, r, s)
-
--- the entries of a star put where star i stands
-putStarAt : Stars → ℕ → Star → Stars
-putStarAt h i s =
-    let start : ℕ = startOf (h .ends) (length (h .nbr)) i in
-    record { count = h .count; ends = h .ends; nbr = sets (h .nbr) start (map toOf s); kind = sets (h .kind) start (map kindIn s) }
-
--- two stars put, one after the other
-two-steps : (h : Stars) (a b t : ℕ)
-    → twoPut h a b t ≡ putStarAt (putStarAt h (a - 4) (rekinded (starOf (jobOf h) a) b t)) (b - 4) (rekinded (starOf (jobOf h) b) a (opposite t))
-unfolding twoPut bothPut putStarAt
-two-steps h a b t = rw (length-sets (h .nbr) (startOf (h .ends) (length (h .nbr)) (a - 4)) (map toOf (rekinded (starOf (jobOf h) a) b t)))
-
--- A STAR PUT WHERE ANOTHER AS LONG STANDS
-held-put : (j : Job) (i : ℕ) (s : Star) → length j ≤ 60 → pairsIn j ≤ 360 → i < length j → length s ≡ length (getD j i [])
-    → putStarAt (heldOf j) i s ≡ heldOf (set j i s)
-unfolding putStarAt heldOf noStars
-held-put j i s few small h q =
-    rw (held-start j few small i h)
-    (same-stars _ _ _ _ _ _ _ _
-    (all-count noStars 0 j ∙ ap (λ (n : ℕ). 0 + n) (sym (length-set j i s)) ∙ sym (all-count noStars 0 (set j i s)))
-    (all-ends noStars 0 j ∙ sym (ends-same (replicate 60 0) 0 0 j i s q) ∙ sym (all-ends noStars 0 (set j i s)))
-    (rw (all-nbr noStars 0 j, all-nbr noStars 0 (set j i s)) (over-held toOf j i s (replicate 360 0) (omega (arith, length-replicate {A = ℕ} 360 0)) h q))
-    (rw (all-kind noStars 0 j, all-kind noStars 0 (set j i s)) (over-held kindIn j i s (replicate 360 0) (omega (arith, length-replicate {A = ℕ} 360 0)) h q)))
-
--- BOTH STARS OF A CONTACT
-module _ (j : Job) (few : length j ≤ 60) (small : pairsIn j ≤ 360) (back : jobOf (heldOf j) ≡ j) where
-  -- the stars of two rooms of a held job, put anew where they stand, are those of the turned job
-  held-two : (a b t : ℕ) → 4 ≤ a → a < 4 + length j → 4 ≤ b → b < 4 + length j → twoPut (heldOf j) a b t ≡ heldOf (twoTurned j a b t)
-  unfolding twoTurned starOf
-  held-two a b t la ka lb kb =
-      let one : Star = rekinded (starOf j a) b t in
-      let two : Star = rekinded (starOf j b) a (opposite t) in
-      let q : length one ≡ length (getD j (a - 4) []) = length-rekinded (starOf j a) b t ∙ rw (le-leb 4 a la) in
-      let r : length two ≡ length (getD (set j (a - 4) one) (b - 4) []) =
-      length-rekinded (starOf j b) a (opposite t) ∙ rw (le-leb 4 b lb) (sym (same-size j (a - 4) (b - 4) one q)) in
-      let n : length (set j (a - 4) one) ≡ length j = length-set j (a - 4) one in
-      rw (two-steps (heldOf j) a b t, back, held-put j (a - 4) one few small (omega arith) q)
-      (held-put (set j (a - 4) one) (b - 4) two (omega arith) (omega (arith, pairs-same j (a - 4) one q)) (omega arith) r)
-
-  -- THE STARS OF A JOB, TURNED, ARE THE STARS OF THE TURNED JOB
-  pub held-turned : (u v a b t : ℕ) → swingOf j u v ≡ swings a b t → twoPut (heldOf j) a b t ≡ heldOf (twoTurned j a b t)
-  held-turned u v a b t f =
-      let (la, ka, lb, kb) = of-rooms j u v a b t f in
-      held-two a b t la ka lb kb
+    which : ((a ≡ u) × (b ≡ v)) ⊎ ((a ≡ v) × (b ≡ u)) → Rooms (length j) u v
+        → (u ≡ v → ⊥) × (named v (starOf j u) ≡ 1) × (named u (starOf j v) ≡ 1) → twoPut (heldOf j) a b t ≡ heldOf (twoTurned j a b t)
+    which (inl (p, q)) r (ne, x, y) = rw (p, q) (held-two j few small back u v t r ne x y)
+    which (inr (p, q)) r (ne, x, y) = rw (p, q) (held-two j few small back v u t (r .2, r .3, r .0, r .1) (λ z. ne (sym z)) y x)

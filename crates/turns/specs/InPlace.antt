@@ -1,18 +1,15 @@
--- Held stars with a contact turned where they stand. Assumes nothing.
+-- Held stars with a contact turned where they stand: two kinds set, and nothing moves. Assumes nothing.
 use Prim.Native.Nat.{ℕ, _-_}
 use mathlib.Core.Bool.{Bool, true, false, _&&_, _||_}
-use mathlib.Core.List.{List, map}
-use lib.ListN.{length}
-use lib.Seq.{sets}
+use mathlib.Core.List.{List}
+use lib.ListN.{length, set}
 use lib.Dec.{leb, eqb}
-use Rattle.floor.specs.Lists.{isLast}
-use Rattle.floor.specs.Jobs.{Entry, Job, opposite, starOf, kindOf, listOf, Reading, fails, reads}
-use Rattle.floor.specs.Turns.{turnedKind, rekinded, inContact}
+use Rattle.floor.specs.Jobs.{Job, opposite, starOf, kindOf, listOf, Reading, fails, reads}
+use Rattle.floor.specs.Turns.{isLast, turnedKind, withKind, inContact}
 use Rattle.stars.specs.declared.Stars.{Stars}
-use Rattle.stars.specs.Held.{startOf, jobIn, jobOf, toOf, kindOf as kindIn}
+use Rattle.stars.specs.Held.{startOf, endOf, jobIn, placeIn}
 use Rattle.turns.specs.declared.Swing.{Swing as Said}
 use Rattle.turns.specs.declared.Swing.the-variants.{Stops, Swings}
-use Rattle.turns.specs.Rewrites.{twoTurned}
 
 -- which contact turns: a refusal, or two rooms, and the kind with which the first then names the second
 pub data Swing : Type 0 where
@@ -28,7 +25,7 @@ allowed false k s = stops k
 unfoldable pub swingAt : Job → ℕ → ℕ → ℕ → Swing
 swingAt j u v k =
     allowed (leb 2 (length (listOf (starOf j u) k)) && leb 2 (length (listOf (starOf j v) (opposite k)))) 12
-    (swings u v (turnedKind k (isLast v (listOf (starOf j u) k))))
+    (swings u v (turnedKind k (isLast (starOf j u) v)))
 
 -- the contact seen from the one room or the other
 unfoldable pub swingFrom : Bool → Job → ℕ → ℕ → ℕ → Swing
@@ -41,35 +38,37 @@ swingOf j u v =
     let k : ℕ = kindOf (starOf j u) v in
     allowed (inContact j u v) 11 (swingFrom (eqb k 0 || eqb k 3) j u v k)
 
+-- the job in which u names v with kind t, and v names u with the opposite kind
+unfoldable pub twoTurned : Job → ℕ → ℕ → ℕ → Job
+twoTurned j u v t = set (set j (u - 4) (withKind (starOf j u) v t)) (v - 4) (withKind (starOf j v) u (opposite t))
+
 -- the job with it turned
 unfoldable pub turnedJob : Job → Swing → Reading
 turnedJob j (stops k) = fails k
 turnedJob j (swings a b t) = reads (twoTurned j a b t)
 
--- one number of each entry of both stars of a contact, put where they stand, the kind new in the one and its opposite in the other
-unfoldable pub bothPut : (Entry → ℕ) → List ℕ → List ℕ → ℕ → Job → ℕ → ℕ → ℕ → List ℕ
-bothPut f o ends most j a b t =
-    sets (sets o (startOf ends most (a - 4)) (map f (rekinded (starOf j a) b t))) (startOf ends most (b - 4)) (map f (rekinded (starOf j b) a (opposite t)))
+-- the place at which star i names v; the place behind the star where it does not
+unfoldable pub placeOf : List ℕ → List ℕ → ℕ → ℕ → ℕ
+placeOf ends nbr i v =
+    let start : ℕ = startOf ends (length nbr) i in
+    placeIn (endOf ends (length nbr) i - start) start nbr v
 
--- so where it turns; as they were where it is refused
-unfoldable pub swungIn : (Entry → ℕ) → List ℕ → List ℕ → ℕ → Job → Swing → List ℕ
-swungIn f o ends most j (stops k) = o
-swungIn f o ends most j (swings a b t) = bothPut f o ends most j a b t
+-- some kinds with two of them set: where room a names b, and where b names a
+unfoldable pub twoSet : List ℕ → List ℕ → List ℕ → ℕ → ℕ → ℕ → List ℕ
+twoSet ends nbr kind a b t = set (set kind (placeOf ends nbr (a - 4) b) t) (placeOf ends nbr (b - 4) a) (opposite t)
 
--- SOME NUMBERS WITH A CONTACT TURNED in them, of so many stars that lie one behind the other, whatever stands there
-unfoldable pub turnedIn : (Entry → ℕ) → List ℕ → ℕ → List ℕ → List ℕ → List ℕ → ℕ → ℕ → List ℕ
-turnedIn f o count ends nbr kind u v =
-    swungIn f o ends (length nbr) (jobIn count ends nbr kind) (swingOf (jobIn count ends nbr kind) u v)
+-- so where the contact turns; as they were where it is refused
+unfoldable pub swungIn : List ℕ → List ℕ → List ℕ → Swing → List ℕ
+swungIn ends nbr kind (stops k) = kind
+swungIn ends nbr kind (swings a b t) = twoSet ends nbr kind a b t
 
--- the stars with both stars of a contact put where they stand
+-- THE KINDS WITH A CONTACT TURNED, of so many stars that lie one behind the other, whatever stands there
+unfoldable pub turnedIn : ℕ → List ℕ → List ℕ → List ℕ → ℕ → ℕ → List ℕ
+turnedIn count ends nbr kind u v = swungIn ends nbr kind (swingOf (jobIn count ends nbr kind) u v)
+
+-- the stars with both kinds of a contact set
 unfoldable pub twoPut : Stars → ℕ → ℕ → ℕ → Stars
-twoPut h a b t =
-    record {
-      count = h .count;
-      ends = h .ends;
-      nbr = bothPut toOf (h .nbr) (h .ends) (length (h .nbr)) (jobOf h) a b t;
-      kind = bothPut kindIn (h .kind) (h .ends) (length (h .nbr)) (jobOf h) a b t;
-    }
+twoPut h a b t = record { count = h .count; ends = h .ends; nbr = h .nbr; kind = twoSet (h .ends) (h .nbr) (h .kind) a b t }
 
 -- what an answer says
 unfoldable pub swingSaid : Said → Swing

@@ -1,2 +1,1 @@
-pub mod Rewrites
 pub mod InPlace

@@ -1,14 +1,14 @@
 // Contacts: two rooms of which one names the other, and the list of one kind in which a neighbour stands.
 ghost use mathlib.Core.Path.{_≡_};
-ghost use mathlib.Core.Bool.{cond, _&&_, _||_};
+ghost use mathlib.Core.Bool.{_&&_, _||_};
 ghost use Prim.Native.Nat.{_+_, _≤_};
 ghost use lib.Dec.{leb, eqb};
 ghost use lib.ListN.{length, getD};
-ghost use Rattle.floor.specs.Lists.{isLast};
 ghost use Rattle.floor.specs.Lists.Laws.{bit};
 ghost use Rattle.floor.specs.Jobs.{kindOf, listOf};
-ghost use Rattle.floor.specs.Turns.{turnedKind, inContact};
-ghost use Rattle.stars.specs.Held.{toAt, heldStar, jobIn};
+ghost use Rattle.floor.specs.Turns.{endsAt, isLast, turnedKind, inContact};
+ghost use Rattle.stars.specs.Held.{linkAt, heldStar, jobIn};
+ghost use Rattle.turns.specs.InPlace.{placeOf};
 
 // Whether a number is a room's, of so many rooms.
 fn is_room(count: usize, v: usize) -> bool
@@ -40,13 +40,21 @@ pub fn in_contact<'a>(
     stars::held::star_names(ends, nbr, kind, count, u, v)
 }
 
+// The place at which a star names a vertex; the place behind the star where it does not.
+pub fn place_of<'a>(ends: &'a [u16], nbr: &'a [u16], i: usize, v: usize) -> usize
+    ensures { λ r. ⌜ r ≡ placeOf (now (ends .entry)) (now (nbr .entry)) i v ⌝ }
+{
+    let from = stars::held::start_of(ends, nbr.len(), i);
+    let end = stars::held::end_of(ends, nbr.len(), i);
+    stars::held::place_in(nbr, from, end, v)
+}
+
 // The kind with which a star names a vertex; 4 where it does not.
 pub fn kind_of<'a>(ends: &'a [u16], nbr: &'a [u16], kind: &'a [u8], i: usize, v: usize) -> u8
     ensures { λ r. ⌜ r ≡ kindOf (heldStar (now (ends .entry)) (now (nbr .entry)) (now (kind .entry)) i) v ⌝ }
 {
-    let from = stars::held::start_of(ends, nbr.len(), i);
     let end = stars::held::end_of(ends, nbr.len(), i);
-    let place = stars::held::place_in(nbr, from, end, v);
+    let place = place_of(ends, nbr, i, v);
     if place < end {
         return stars::held::kind_at(kind, place);
     }
@@ -98,33 +106,29 @@ pub fn many_of<'a>(ends: &'a [u16], nbr: &'a [u16], kind: &'a [u8], i: usize, wa
     many
 }
 
-// Whether the last entry of a kind names the vertex, the entry at a place and those before it read.
-fn last_with<'a>(nbr: &'a [u16], kind: &'a [u8], k: usize, want: u8, v: usize, before: bool) -> bool
-    ensures { λ r. ⌜ r ≡ cond (eqb (getD (now (kind .entry)) k 0) want) (eqb (toAt (now (nbr .entry)) k) v) before ⌝ }
+// Whether the entry at a place of a star names the vertex, and behind it the kind changes.
+fn ends_at<'a>(nbr: &'a [u16], kind: &'a [u8], from: usize, end: usize, k: usize, v: usize) -> bool
+    ensures { λ r. ⌜ r ≡ endsAt v (linkAt from end (now (nbr .entry)) (now (kind .entry)) k) ⌝ }
 {
-    if stars::held::kind_at(kind, k) == want {
-        return stars::held::to_at(nbr, k) == v;
+    if stars::held::to_at(nbr, k) != v {
+        return false;
     }
-    before
+    let next = stars::held::place_after(from, end, k);
+    stars::held::kind_at(kind, k) != stars::held::kind_at(kind, next)
 }
 
-// Whether the last entry of one kind in a star names the vertex.
-pub fn last_of<'a>(
-    ends: &'a [u16],
-    nbr: &'a [u16],
-    kind: &'a [u8],
-    i: usize,
-    want: u8,
-    v: usize,
-) -> bool
-    ensures { λ r. ⌜ r ≡ isLast v (listOf (heldStar (now (ends .entry)) (now (nbr .entry)) (now (kind .entry)) i) want) ⌝ }
+// Whether a vertex is last of its list, once round a star.
+pub fn last_of<'a>(ends: &'a [u16], nbr: &'a [u16], kind: &'a [u8], i: usize, v: usize) -> bool
+    ensures { λ r. ⌜ r ≡ isLast (heldStar (now (ends .entry)) (now (nbr .entry)) (now (kind .entry)) i) v ⌝ }
 {
+    let from = stars::held::start_of(ends, nbr.len(), i);
     let end = stars::held::end_of(ends, nbr.len(), i);
-    let mut k = stars::held::start_of(ends, nbr.len(), i);
-    let mut last = false;
+    let mut k = from;
     while k < end {
-        last = last_with(nbr, kind, k, want, v, last);
+        if ends_at(nbr, kind, from, end, k, v) {
+            return true;
+        }
         k += 1;
     }
-    last
+    false
 }

@@ -1,8 +1,10 @@
 //! Jobs of every sort: floors as they are, floors damaged in many ways, limits, and mere garbage.
 
 use crate::alone::undrawable;
+use crate::circle::{gap, inserting, kinds_of, list};
+use crate::rounds::go_round_wrongly;
 use floors::Chance;
-use floors::{any_floor, floor_of, renumbered, turned_at_random, MOST_ROOMS};
+use floors::{any_floor, floor_of, renumbered, restarted, turned_at_random, MOST_ROOMS};
 use reference::fields::put_field;
 use reference::job::{Entry, Job};
 use reference::{opposite, ABOVE, FIRST_ROOM, RIGHT};
@@ -20,13 +22,25 @@ pub fn any_job(chance: &mut Chance) -> Vec<u8> {
     }
 }
 
-/// A floor from geometry, some contacts turned, its rooms numbered at random.
+/// A job made star by star, so that each can be started elsewhere; more often one that is accepted.
+pub fn job_of_stars(chance: &mut Chance) -> Job {
+    match chance.below(10) {
+        0..=5 => finished_floor(chance),
+        6..=7 => damaged_job(chance),
+        8 => undrawable(chance),
+        _ => scattered(chance),
+    }
+}
+
+/// A floor from geometry, some contacts turned, its rooms numbered and its stars started at random.
 pub fn finished_floor(chance: &mut Chance) -> Job {
     let floor = any_floor(chance);
     let floor = turned_at_random(chance, floor);
-    renumbered(chance, &floor)
+    let floor = renumbered(chance, &floor);
+    restarted(chance, floor)
 }
 
+/// The stars are started elsewhere before and behind the damages, so that these meet a list that runs over the start.
 fn damaged_job(chance: &mut Chance) -> Job {
     let mut job = finished_floor(chance);
     // Several damages at once show whether the tests come in the written order.
@@ -34,7 +48,7 @@ fn damaged_job(chance: &mut Chance) -> Job {
     for _ in 0..times {
         damage(chance, &mut job);
     }
-    job
+    restarted(chance, job)
 }
 
 /// One damage. Those that keep both sides of every contact in step are chosen more often: only they reach tests 7 and 9.
@@ -45,7 +59,8 @@ fn damage(chance: &mut Chance, job: &mut Job) {
     match chance.below(24) {
         0 => change_neighbour(chance, job),
         1 => change_kind(chance, job),
-        2 => swap_entries(chance, job),
+        2 if chance.percent(50) => swap_entries(chance, job),
+        2 => go_round_wrongly(chance, job),
         3 => delete_entry(chance, job),
         4 => insert_entry(chance, job),
         5 => delete_star(chance, job),
@@ -145,12 +160,11 @@ fn change_one_side(chance: &mut Chance, job: &mut Job) {
     if alone || !room {
         return;
     }
-    let next_kind = entries.get(place + 1).map(|entry| entry.kind);
-    match next_kind {
-        Some(next) if next != kind && chance.percent(70) => entries[place].kind = next,
-        _ => {
-            entries.remove(place);
-        }
+    let next = entries[(place + 1) % entries.len()].kind;
+    if next != kind && chance.percent(70) {
+        entries[place].kind = next;
+    } else {
+        entries.remove(place);
     }
 }
 
@@ -201,8 +215,9 @@ fn take_contact(job: &mut Job, one: usize, other: usize) {
 fn fill_with_frame(job: &mut Job, room: usize) {
     for kind in 0..4u8 {
         let star = job.star_of_mut(room);
-        if star.iter().all(|entry| entry.kind != kind) {
-            let place = star.iter().filter(|entry| entry.kind < kind).count();
+        let kinds = kinds_of(star);
+        if !kinds.contains(&kind) {
+            let place = gap(&kinds, kind);
             let neighbour = usize::from(kind);
             star.insert(place, Entry { neighbour, kind });
         }
@@ -213,8 +228,9 @@ fn exchange_order(chance: &mut Chance, job: &mut Job) {
     for _ in 0..20 {
         let (star, place) = some_entry(chance, job);
         let entries = &mut job.stars[star];
-        if place + 1 < entries.len() && entries[place].kind == entries[place + 1].kind {
-            entries.swap(place, place + 1);
+        let next = (place + 1) % entries.len();
+        if place != next && entries[place].kind == entries[next].kind {
+            entries.swap(place, next);
             return;
         }
     }
@@ -246,7 +262,7 @@ fn add_contact(chance: &mut Chance, job: &mut Job) {
 }
 
 /// The other room stands in this kind from the one, written into both stars at random places of the right lists.
-fn put_contact(chance: &mut Chance, job: &mut Job, one: usize, other: usize, kind: u8) {
+pub fn put_contact(chance: &mut Chance, job: &mut Job, one: usize, other: usize, kind: u8) {
     let listed = job.kind_of(one, other).is_some() || job.kind_of(other, one).is_some();
     if one == other || listed {
         return;
@@ -257,10 +273,9 @@ fn put_contact(chance: &mut Chance, job: &mut Job, one: usize, other: usize, kin
 
 fn put_entry(chance: &mut Chance, job: &mut Job, room: usize, neighbour: usize, kind: u8) {
     let star = job.star_of_mut(room);
-    let first = star.iter().filter(|entry| entry.kind < kind).count();
-    let length = star.iter().filter(|entry| entry.kind == kind).count();
-    // Stars damaged before may be out of order; the place then only has to exist.
-    let place = (first + chance.below(length + 1)).min(star.len());
+    let kinds = kinds_of(star);
+    let (begin, length) = list(&kinds, kind).unwrap_or((gap(&kinds, kind), 0));
+    let place = inserting(&kinds, begin + chance.below(length + 1));
     star.insert(place, Entry { neighbour, kind });
     if chance.percent(50) {
         // A frame side stands alone in its list wherever walls run in no circle.
@@ -309,7 +324,8 @@ fn scattered(chance: &mut Chance) -> Job {
     for room in job.rooms() {
         fill_with_frame(&mut job, room);
     }
-    renumbered(chance, &job)
+    let job = renumbered(chance, &job);
+    restarted(chance, job)
 }
 
 /// A floor, or a damaged one, whose bytes are then damaged without regard to their meaning.
@@ -371,14 +387,22 @@ fn garbage(chance: &mut Chance) -> Vec<u8> {
 
 fn at_the_limits(chance: &mut Chance) -> Vec<u8> {
     match chance.below(7) {
-        0 => floor_of(chance, MOST_ROOMS).bytes(),
-        1 => long_row(chance.between(60, 62)).bytes(),
+        0 => floor_of_sixty(chance).bytes(),
+        1 => {
+            let row = long_row(chance.between(60, 62));
+            restarted(chance, row).bytes()
+        }
         2 => crowded_floor(chance).bytes(),
         3 => crowded_stars(chance),
         4 => one_long_star(chance),
         5 => long_shape(chance),
         _ => wrong_count(chance),
     }
+}
+
+fn floor_of_sixty(chance: &mut Chance) -> Job {
+    let floor = floor_of(chance, MOST_ROOMS);
+    restarted(chance, floor)
 }
 
 /// Like the row of the floor examples, of any length that one byte can count.
@@ -399,7 +423,7 @@ fn long_row(rooms: usize) -> Job {
 
 /// Sixty rooms and about 360 pairs, both sides in step: the limit itself, then tests 4 to 9.
 fn crowded_floor(chance: &mut Chance) -> Job {
-    let mut job = floor_of(chance, MOST_ROOMS);
+    let mut job = floor_of_sixty(chance);
     let wanted = chance.between(359, 362);
     for _ in 0..400 {
         if job.pairs() + 1 >= wanted {
@@ -428,7 +452,7 @@ fn crowded_stars(chance: &mut Chance) -> Vec<u8> {
     job.bytes()
 }
 
-/// A star whose length needs both bytes, up to the longest that the stream of calls can carry.
+/// A star round and round, from any start, whose length needs both bytes, up to the longest that the stream of calls can carry.
 fn one_long_star(chance: &mut Chance) -> Vec<u8> {
     let length = *chance.pick(&[254, 255, 256, 258, 720, 721, 722, 2_000, 30_001, 65_000]);
     let mut bytes = Vec::new();
@@ -436,6 +460,7 @@ fn one_long_star(chance: &mut Chance) -> Vec<u8> {
     let value: Vec<u8> = [0, 0, 1, 1, 2, 2, 3, 3]
         .into_iter()
         .cycle()
+        .skip(2 * chance.below(4))
         .take(length)
         .collect();
     put_field(&mut bytes, 2, &value);

@@ -1,11 +1,14 @@
 //! Puts many jobs and calls to the reference and to the built programs `calls`, `listing` and `draw`, and compares every line.
 
 mod alone;
+mod circle;
 mod damage;
+mod pairs;
 mod picture;
 mod planner;
 mod programs;
 mod proofread;
+mod rounds;
 mod shrink;
 mod slips;
 mod streams;
@@ -23,14 +26,14 @@ use std::time::Instant;
 use streams::{make_stream, Budget};
 use table::Table;
 
-const USAGE: &str =
-    "differ [--short | --long] [--seed N] [--jobs N] [--calls N] [--listings N] [--pictures N] \
-    [--runner PATH] [--slip NAME]";
+const USAGE: &str = "differ [--short | --long] [--seed N] [--jobs N] [--calls N] [--pairs N] \
+    [--listings N] [--pictures N] [--runner PATH] [--slip NAME] [--reference]";
 
 struct Options {
     seed: u64,
     jobs: usize,
     calls: usize,
+    pairs: usize,
     listings: usize,
     pictures: usize,
     under_test: UnderTest,
@@ -43,17 +46,23 @@ fn main() -> ExitCode {
     };
     let begun = Instant::now();
     println!(
-        "seed {}, {} jobs, {} other calls, {} listings, {} pictures",
-        options.seed, options.jobs, options.calls, options.listings, options.pictures
+        "seed {}, {} jobs, {} other calls, {} pairs of starts, {} listings, {} pictures",
+        options.seed,
+        options.jobs,
+        options.calls,
+        options.pairs,
+        options.listings,
+        options.pictures
     );
     let mut table = Table::default();
     let same = compare_calls(&options, &mut table)
+        && compare_pairs(&options, &mut table)
         && compare_listings(&options, &mut table)
         && compare_pictures(&options, &mut table);
     table.print();
     println!(
         "{} cases in {:.1} seconds",
-        table.cases() + table.listings.values().sum::<u64>() + table.pictures.values().sum::<u64>(),
+        table.cases(),
         begun.elapsed().as_secs_f64()
     );
     if same {
@@ -70,6 +79,7 @@ fn read_options() -> Option<Options> {
         seed: 1,
         jobs: 20_000,
         calls: 50_000,
+        pairs: 1_000,
         listings: 300,
         pictures: 200,
         under_test: UnderTest::Runner("../bin/run".to_string()),
@@ -80,14 +90,17 @@ fn read_options() -> Option<Options> {
             "--short" => {}
             "--long" => {
                 (options.jobs, options.calls) = (400_000, 600_000);
+                options.pairs = 10_000;
                 (options.listings, options.pictures) = (3_000, 2_000);
             }
             "--seed" => options.seed = words.next()?.parse().ok()?,
             "--jobs" => options.jobs = words.next()?.parse().ok()?,
             "--calls" => options.calls = words.next()?.parse().ok()?,
+            "--pairs" => options.pairs = words.next()?.parse().ok()?,
             "--listings" => options.listings = words.next()?.parse().ok()?,
             "--pictures" => options.pictures = words.next()?.parse().ok()?,
             "--runner" => options.under_test = UnderTest::Runner(words.next()?),
+            "--reference" => options.under_test = UnderTest::Reference,
             "--slip" => {
                 let name = words.next()?;
                 let slip = slips::ALL.iter().find(|slip| format!("{slip:?}") == name)?;
@@ -137,6 +150,16 @@ fn show_stream_difference(options: &Options, pieces: Vec<Vec<u8>>) {
         "  program:   {}",
         found.lines().nth(line).unwrap_or("(nothing)")
     );
+}
+
+/// Each job beside the same job with its stars started elsewhere, both put to the planner under test.
+fn compare_pairs(options: &Options, table: &mut Table) -> bool {
+    let unlike = pairs::first_unlike(&options.under_test, options.seed, options.pairs, table);
+    if let Some(pair) = &unlike {
+        println!("two jobs that differ only in their starts are not answered alike");
+        println!("{pair}");
+    }
+    unlike.is_none()
 }
 
 /// One process a job, so only a sample, with lengths about the listing program's limit among them.

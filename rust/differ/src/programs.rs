@@ -1,8 +1,9 @@
-//! The planner under test: the built programs, or, to try the comparison itself, a planner with a known slip.
+//! The planner under test: the built programs, or, to try the comparison itself, a planner with a known slip or with none.
 
 use crate::picture::with_name;
 use crate::planner::{calls_text, listing_text};
 use crate::slips::{Slip, SlippedBoard};
+use reference::Board;
 use std::io::{Read, Write};
 use std::process::{Child, Command, Stdio};
 use std::sync::mpsc;
@@ -14,6 +15,8 @@ pub enum UnderTest {
     /// A command that takes a program's name and runs it.
     Runner(String),
     Slipped(Slip),
+    /// The reference once more, to see what the mix of jobs and calls comes to.
+    Reference,
 }
 
 impl UnderTest {
@@ -21,6 +24,7 @@ impl UnderTest {
         match self {
             UnderTest::Runner(path) => run(path, "calls", stream),
             UnderTest::Slipped(slip) => calls_text(&mut SlippedBoard::empty(*slip), stream),
+            UnderTest::Reference => calls_text(&mut Board::empty(), stream),
         }
     }
 
@@ -28,15 +32,16 @@ impl UnderTest {
         match self {
             UnderTest::Runner(path) => run(path, "listing", job),
             UnderTest::Slipped(slip) => listing_text(&mut SlippedBoard::empty(*slip), job),
+            UnderTest::Reference => listing_text(&mut Board::empty(), job),
         }
     }
 
-    /// A planner with a slip draws nothing; its listing stands for the picture.
+    /// A planner in plain Rust draws nothing; its listing stands for the picture.
     pub fn picture(&self, name: &[u8], job: &[u8]) -> String {
         match self {
             UnderTest::Runner(path) if name.is_empty() => run(path, "draw", job),
             UnderTest::Runner(path) => run(path, "draw", &with_name(name, job)),
-            UnderTest::Slipped(_) => self.listing(job),
+            UnderTest::Slipped(_) | UnderTest::Reference => self.listing(job),
         }
     }
 }

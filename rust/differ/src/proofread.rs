@@ -72,7 +72,7 @@ fn contacts_are_walls(job: &Job, plan: &Plan) -> bool {
     })
 }
 
-/// Each neighbour on the side its kind says, and the walk round the room meets them in the star's order.
+/// Each neighbour on the side its kind says, and the walk round the room, back to its start, meets them in the star's order.
 fn stands_round(plan: &Plan, room: usize, star: &[Entry]) -> bool {
     let r = &plan.rectangles[room];
     let on_its_side = star.iter().all(|entry| {
@@ -84,11 +84,12 @@ fn stands_round(plan: &Plan, room: usize, star: &[Entry]) -> bool {
             _ => o.x1 == r.x2,
         }
     });
-    let in_order = star.windows(2).all(|two| {
-        let first = &plan.rectangles[two[0].neighbour];
-        let next = &plan.rectangles[two[1].neighbour];
-        match (two[0].kind, two[1].kind) {
-            (a, b) if a != b => a < b,
+    let in_order = (0..star.len()).all(|place| {
+        let (entry, follower) = (&star[place], &star[(place + 1) % star.len()]);
+        let first = &plan.rectangles[entry.neighbour];
+        let next = &plan.rectangles[follower.neighbour];
+        match (entry.kind, follower.kind) {
+            (a, b) if a != b => b == (a + 1) % 4,
             (ABOVE, _) => next.x2 <= first.x1,
             (LEFT, _) => next.y2 <= first.y1,
             (BELOW, _) => first.x2 <= next.x1,

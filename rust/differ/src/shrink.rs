@@ -1,5 +1,6 @@
-//! A difference made small: calls left out while it stays, then stars, entries and bytes of the jobs.
+//! A difference made small: calls left out while it stays, then stars, entries and bytes of the jobs, then starts elsewhere.
 
+use crate::circle::{gap, list};
 use crate::planner::{calls_text, LOAD, STAR};
 use crate::programs::UnderTest;
 use reference::fields::{put_field, Reader};
@@ -143,7 +144,22 @@ fn smaller_jobs(bytes: &[u8]) -> Vec<Vec<u8>> {
     }
     // A job that is not in order comes back changed from being read so; only what gets shorter is a step.
     all.retain(|job| job.len() < bytes.len());
+    // As long as before, but with one start elsewhere fewer, so that this comes to an end too.
+    let straighter = straighter_jobs(&stars, &rest);
+    all.extend(straighter.filter(|job| job.len() == bytes.len()));
     all
+}
+
+/// One star started with its first above-neighbour again, so that a start elsewhere that is left matters.
+fn straighter_jobs<'a>(stars: &'a [Vec<u8>], rest: &'a [u8]) -> impl Iterator<Item = Vec<u8>> + 'a {
+    let straightened = |(place, star): (usize, &Vec<u8>)| {
+        let kinds: Vec<u8> = star.chunks_exact(2).map(|pair| pair[1]).collect();
+        let (begin, _) = list(&kinds, 0)?;
+        let mut straighter = stars.to_vec();
+        straighter[place].rotate_left(2 * begin);
+        (begin > 0 && star.len() % 2 == 0).then(|| joined(&straighter, rest))
+    };
+    stars.iter().enumerate().filter_map(straightened)
 }
 
 /// The star values as far as the bytes are fields at all, and what is left over.
@@ -195,9 +211,9 @@ fn without_room(stars: &[Vec<u8>], place: usize) -> Vec<Vec<u8>> {
 
 fn with_each_kind(mut pairs: Vec<[u8; 2]>) -> Vec<u8> {
     for kind in 0..4 {
-        if pairs.iter().all(|pair| pair[1] != kind) {
-            let place = pairs.iter().filter(|pair| pair[1] < kind).count();
-            pairs.insert(place, [kind, kind]);
+        let kinds: Vec<u8> = pairs.iter().map(|pair| pair[1]).collect();
+        if !kinds.contains(&kind) {
+            pairs.insert(gap(&kinds, kind), [kind, kind]);
         }
     }
     pairs.concat()

@@ -1,8 +1,9 @@
 //! Planners with one known slip each. A comparison that lets one of them pass would show little.
 
+use crate::circle::{kinds_of, list, places};
 use crate::planner::Planner;
-use reference::drawing::{draw, faults, place, share_wall, Faults, Plan, Rectangle};
-use reference::job::{read, Job};
+use reference::drawing::{draw, faults, in_order, place, share_wall, Faults, Plan, Rectangle};
+use reference::job::{changes, goes_on, nobody_twice, read_by, star_is_fit, Job, Star};
 use reference::turning::turned;
 use reference::walls::{number_walls, WallNumbers};
 use reference::{Board, Refusal, ABOVE, FIRST_ROOM, RIGHT};
@@ -48,9 +49,23 @@ pub enum Slip {
     ShapeBeforeCount,
     /// The star question answers jobs with bytes left over.
     StarOfLongerJob,
+    /// A star that goes round twice is accepted.
+    TwiceRound,
+    /// Four changes of kind are enough, whichever they are.
+    AnyFourChanges,
+    /// A star that does not start with its first above-neighbour is 5.
+    FirstAboveOnly,
+    /// Stars are held, and written, from their first above-neighbour on.
+    HeldFromFirstAbove,
+    /// Last is who stands last of the list as written, not on the circle.
+    LastAsWritten,
+    /// Document 01's old rule: a turn moves an entry over the star's start.
+    EntryMoved,
+    /// The order test does not look from the star's end to its start.
+    OrderNotClosed,
 }
 
-pub const ALL: [Slip; 21] = [
+pub const ALL: [Slip; 28] = [
     Slip::RoomsOnly,
     Slip::AreaAlone,
     Slip::NoArea,
@@ -72,6 +87,23 @@ pub const ALL: [Slip; 21] = [
     Slip::FourBeforeThree,
     Slip::ShapeBeforeCount,
     Slip::StarOfLongerJob,
+    Slip::TwiceRound,
+    Slip::AnyFourChanges,
+    Slip::FirstAboveOnly,
+    Slip::HeldFromFirstAbove,
+    Slip::LastAsWritten,
+    Slip::EntryMoved,
+    Slip::OrderNotClosed,
+];
+
+/// Those that a job and the same job started elsewhere show without the reference.
+#[cfg(test)]
+pub const OF_STARTS: [Slip; 5] = [
+    Slip::FirstAboveOnly,
+    Slip::HeldFromFirstAbove,
+    Slip::LastAsWritten,
+    Slip::EntryMoved,
+    Slip::OrderNotClosed,
 ];
 
 pub struct SlippedBoard {
@@ -92,10 +124,7 @@ impl SlippedBoard {
     fn draw(&self, job: &Job) -> Result<Plan, Refusal> {
         let mut judged = job.clone();
         if self.slip == Slip::AboveLeftToRight {
-            for star in &mut judged.stars {
-                let above = star.iter().filter(|entry| entry.kind == ABOVE).count();
-                star[..above].reverse();
-            }
+            judged.stars.iter_mut().for_each(reverse_above);
         }
         let numbers = if self.slip == Slip::RoomsOnly {
             number_walls(job)?;
@@ -104,10 +133,48 @@ impl SlippedBoard {
             number_walls(&judged)?
         };
         let plan = place(&judged, &numbers);
-        if self.without_item(faults(&judged, &plan)).any() {
+        let mut found = self.without_item(faults(&judged, &plan));
+        if self.slip == Slip::OrderNotClosed {
+            found.order = !in_order_as_written(&judged, &plan);
+        }
+        if found.any() {
             return Err(Refusal(9));
         }
         Ok(plan)
+    }
+
+    /// Test 5 of a star.
+    fn star_is_fit(&self, star: &Star) -> bool {
+        let changes = changes(star);
+        match self.slip {
+            Slip::TwiceRound => {
+                !changes.is_empty() && changes.iter().all(goes_on) && nobody_twice(star)
+            }
+            Slip::AnyFourChanges => changes.len() == 4 && nobody_twice(star),
+            Slip::FirstAboveOnly => star_is_fit(star) && kinds_of(star).is_sorted(),
+            _ => star_is_fit(star),
+        }
+    }
+
+    fn turned(&self, job: &Job, one: usize, other: usize) -> Result<Job, Refusal> {
+        match self.slip {
+            Slip::LastAsWritten => {
+                // Sorted so, each list stands in its written order; only the kinds are taken over.
+                let mut sorted = job.clone();
+                for star in &mut sorted.stars {
+                    star.sort_by_key(|entry| entry.kind);
+                }
+                Ok(with_kinds_of(job, &turned(&sorted, one, other)?))
+            }
+            Slip::EntryMoved => {
+                let mut result = turned(job, one, other)?;
+                for (star, before) in result.stars.iter_mut().zip(&job.stars) {
+                    move_over_the_start(star, before);
+                }
+                Ok(result)
+            }
+            _ => turned(job, one, other),
+        }
     }
 
     fn without_item(&self, mut found: Faults) -> Faults {
@@ -143,10 +210,13 @@ impl SlippedBoard {
                 return Err(Refusal(1));
             }
         }
-        let job = match read(bytes) {
+        let mut job = match read_by(bytes, |star| self.star_is_fit(star)) {
             Err(Refusal(3)) if self.slip == Slip::FourBeforeThree => return Err(Refusal(4)),
             other => other?,
         };
+        if self.slip == Slip::HeldFromFirstAbove {
+            job.stars.iter_mut().for_each(start_with_above);
+        }
         let plan = self.draw(&job)?;
         Ok((job, plan))
     }
@@ -161,6 +231,48 @@ impl SlippedBoard {
             buffer[bytes.len()..].fill(0);
         }
         Ok(bytes.len())
+    }
+}
+
+fn reverse_above(star: &mut Star) {
+    let above = places(&kinds_of(star), ABOVE);
+    for (&one, &other) in above.iter().zip(above.iter().rev()).take(above.len() / 2) {
+        star.swap(one, other);
+    }
+}
+
+fn start_with_above(star: &mut Star) {
+    if let Some((begin, _)) = list(&kinds_of(star), ABOVE) {
+        star.rotate_left(begin);
+    }
+}
+
+fn in_order_as_written(job: &Job, plan: &Plan) -> bool {
+    job.stars
+        .iter()
+        .all(|star| star.windows(2).all(|two| in_order(&two[0], &two[1], plan)))
+}
+
+/// Every entry where it stands, with the kind that the other job gives it.
+fn with_kinds_of(job: &Job, other: &Job) -> Job {
+    let mut result = job.clone();
+    for room in job.rooms() {
+        for entry in result.star_of_mut(room) {
+            let kind = other.kind_of(room, entry.neighbour);
+            entry.kind = kind.expect("both list the same neighbours");
+        }
+    }
+    result
+}
+
+/// A first entry gone from 0 to 3 moves to the end, a last one gone from 3 to 0 to the front.
+fn move_over_the_start(star: &mut Star, before: &Star) {
+    let last = star.len() - 1;
+    let gone = |place: usize| (before[place].kind, star[place].kind);
+    if gone(0) == (ABOVE, RIGHT) {
+        star.rotate_left(1);
+    } else if gone(last) == (RIGHT, ABOVE) {
+        star.rotate_right(1);
     }
 }
 
@@ -219,7 +331,7 @@ impl Planner for SlippedBoard {
         if self.slip == Slip::TurnAnswers13 && one.max(other) >= job.vertices() {
             return Err(Refusal(13));
         }
-        let job = turned(job, one, other)?;
+        let job = self.turned(job, one, other)?;
         if self.slip == Slip::TurnRefuses {
             return Err(Refusal(12));
         }

@@ -304,17 +304,17 @@ fn cut(chance: &mut Chance, mut piece: Vec<u8>) -> Vec<u8> {
     piece
 }
 
-fn call(tag: u8, value: &[u8]) -> Vec<u8> {
+pub fn call(tag: u8, value: &[u8]) -> Vec<u8> {
     let mut piece = Vec::new();
     put_field(&mut piece, tag, value);
     piece
 }
 
-fn two(number: usize) -> [u8; 2] {
+pub fn two(number: usize) -> [u8; 2] {
     (number as u16).to_be_bytes()
 }
 
-fn four(one: usize, other: usize) -> [u8; 4] {
+pub fn four(one: usize, other: usize) -> [u8; 4] {
     let (a, b) = (two(one), two(other));
     [a[0], a[1], b[0], b[1]]
 }

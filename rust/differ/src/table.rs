@@ -11,8 +11,10 @@ pub struct Table {
     faults: BTreeMap<[bool; 6], u64>,
     pub streams: u64,
     pub broken_streams: u64,
-    pub listings: BTreeMap<String, u64>,
-    pub pictures: BTreeMap<String, u64>,
+    /// Pairs of one job with two starts, by what came of both.
+    pairs: BTreeMap<String, u64>,
+    listings: BTreeMap<String, u64>,
+    pictures: BTreeMap<String, u64>,
     pub turned_back: u64,
     pub plans_checked: u64,
 }
@@ -49,6 +51,15 @@ impl Table {
         *self.faults.entry(key).or_default() += 1;
     }
 
+    pub fn count_pair(&mut self, loaded: &str, turned: &str) {
+        let turn = match (first_words(loaded).as_str(), first_words(turned).as_str()) {
+            ("accepted", "accepted") => " and turned",
+            _ => "",
+        };
+        let name = format!("{}{turn}", first_words(loaded));
+        *self.pairs.entry(name).or_default() += 1;
+    }
+
     pub fn count_listing(&mut self, text: &str) {
         *self.listings.entry(first_words(text)).or_default() += 1;
     }
@@ -58,7 +69,9 @@ impl Table {
     }
 
     pub fn cases(&self) -> u64 {
-        self.seen.values().sum()
+        let counts = [&self.pairs, &self.listings, &self.pictures];
+        let others = counts.into_iter().flat_map(BTreeMap::values);
+        self.seen.values().chain(others).sum()
     }
 
     fn of(&self, tag: u8, outcome: Outcome) -> u64 {
@@ -111,6 +124,7 @@ impl Table {
             "{} streams, {} of them broken; {} plans checked cell by cell; {} turns made again at once",
             self.streams, self.broken_streams, self.plans_checked, self.turned_back
         );
+        println!("pairs of starts: {}", told(&self.pairs));
         println!("listings: {}", told(&self.listings));
         println!("pictures: {}", told(&self.pictures));
         let never: Vec<String> = REFUSALS

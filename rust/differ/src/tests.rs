@@ -1,11 +1,12 @@
 //! The comparison tried on itself: every known slip is found and shrunk, and the reference agrees with itself.
 
 use crate::damage::finished_floor;
+use crate::pairs::first_unlike;
 use crate::picture::listing_shown;
 use crate::programs::UnderTest;
 use crate::proofread::plan_fault;
 use crate::shrink::{both_texts, Shrinker};
-use crate::slips::ALL;
+use crate::slips::{ALL, OF_STARTS};
 use crate::streams::{make_stream, Budget};
 use crate::table::Table;
 use floors::Chance;
@@ -44,6 +45,16 @@ fn every_slip_is_found_and_shrunk() {
             small.len()
         );
     }
+}
+
+#[test]
+fn a_slip_of_starts_is_found_without_the_reference() {
+    let unlike = |under_test| first_unlike(&under_test, 11, 500, &mut Table::default());
+    for slip in OF_STARTS {
+        let found = unlike(UnderTest::Slipped(slip));
+        assert!(found.is_some(), "{slip:?} is not found");
+    }
+    assert_eq!(unlike(UnderTest::Reference), None);
 }
 
 #[test]

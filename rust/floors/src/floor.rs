@@ -381,6 +381,35 @@ pub fn renumbered(chance: &mut Chance, job: &Job) -> Job {
     result
 }
 
+/// The same job with none, some or all of its stars started elsewhere.
+pub fn restarted(chance: &mut Chance, job: Job) -> Job {
+    let share = *chance.pick(&[0, 30, 100]);
+    let starts: Vec<usize> = job
+        .stars
+        .iter()
+        .map(|star| {
+            if chance.percent(share) {
+                some_start(chance, star)
+            } else {
+                0
+            }
+        })
+        .collect();
+    started_at(job, &starts)
+}
+
+pub fn some_start(chance: &mut Chance, star: &Star) -> usize {
+    chance.below(star.len().max(1))
+}
+
+/// Each star started with the entry that stood at the place given for it.
+pub fn started_at(mut job: Job, starts: &[usize]) -> Job {
+    for (star, start) in job.stars.iter_mut().zip(starts) {
+        star.rotate_left(*start);
+    }
+    job
+}
+
 /// Some contacts turned, through the reference; turns it refuses are passed over.
 pub fn turned_at_random(chance: &mut Chance, job: Job) -> Job {
     let mut result = job;

@@ -5,4 +5,5 @@ pub mod floor;
 pub mod known;
 
 pub use chance::Chance;
-pub use floor::{any_floor, floor_of, renumbered, turned_at_random, Floor, MOST_ROOMS};
+pub use floor::{any_floor, floor_of, renumbered, restarted, some_start, started_at};
+pub use floor::{turned_at_random, Floor, MOST_ROOMS};

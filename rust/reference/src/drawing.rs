@@ -1,7 +1,7 @@
 //! Rectangles from wall numbers, and the drawing test, item by item.
 
 use crate::fields::put_field;
-use crate::job::{Entry, Job};
+use crate::job::{round, Entry, Job};
 use crate::walls::{number_walls, WallNumbers};
 use crate::{refusal, Refusal, ABOVE, BELOW, EAST, FIRST_ROOM, LEFT, NORTH, SOUTH, WEST};
 
@@ -154,20 +154,22 @@ fn frame_neighbours(a: usize, b: usize) -> bool {
     pairs.contains(&(a, b)) || pairs.contains(&(b, a))
 }
 
-/// Neighbours of one kind follow each other as the counterclockwise walk meets them.
+/// Once round the star, back to the start, so that a list is read over the start as well.
 fn star_in_order(star: &[Entry], plan: &Plan) -> bool {
-    star.windows(2)
-        .filter(|two| two[0].kind == two[1].kind)
-        .all(|two| {
-            let first = &plan.rectangles[two[0].neighbour];
-            let next = &plan.rectangles[two[1].neighbour];
-            match two[0].kind {
-                ABOVE => first.x1 > next.x1,
-                LEFT => first.y1 > next.y1,
-                BELOW => first.x1 < next.x1,
-                _ => first.y1 < next.y1,
-            }
-        })
+    round(star).all(|(entry, next)| in_order(entry, next, plan))
+}
+
+/// Neighbours of one kind follow each other as the counterclockwise walk meets them.
+pub fn in_order(entry: &Entry, next: &Entry, plan: &Plan) -> bool {
+    let one = &plan.rectangles[entry.neighbour];
+    let other = &plan.rectangles[next.neighbour];
+    match (entry.kind, next.kind) {
+        (kind, next_kind) if kind != next_kind => true,
+        (ABOVE, _) => one.x1 > other.x1,
+        (LEFT, _) => one.y1 > other.y1,
+        (BELOW, _) => one.x1 < other.x1,
+        _ => one.y1 < other.y1,
+    }
 }
 
 impl Plan {

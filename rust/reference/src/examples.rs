@@ -39,6 +39,13 @@ fn loaded(bytes: &[u8]) -> Board {
     board
 }
 
+fn written(board: &Board) -> Vec<u8> {
+    let mut buffer = vec![0; 904];
+    let length = board.write_job(&mut buffer).expect("no job is longer");
+    buffer.truncate(length);
+    buffer
+}
+
 fn at(x1: usize, y1: usize, x2: usize, y2: usize) -> Result<Rectangle, Refusal> {
     Ok(Rectangle { x1, y1, x2, y2 })
 }
@@ -135,6 +142,17 @@ fn p9_f_turned_and_turned_back() {
     assert_eq!(board.turn(6, 5), Ok((5, 4)));
 }
 
+/// W2: the kinds change where they stand. Document 01 itself would have moved room 5 to the front of room 6's star.
+#[test]
+fn a_turn_moves_no_entry() {
+    let mut board = loaded(&bytes(F));
+    board.turn(5, 6).expect("accepted");
+    let turned = written(&board);
+    assert_eq!(star(&turned, 5), bytes("00 00 04 01 06 02 07 02 03 03"));
+    assert_eq!(star(&turned, 6), bytes("04 00 01 01 02 02 07 03 05 00"));
+    assert_eq!(loaded(&turned), board);
+}
+
 #[test]
 fn p10_four_at_a_point() {
     let mut parted = crate::job::read(&bytes(F)).unwrap();
@@ -173,6 +191,104 @@ fn above_lists_run_from_right_to_left() {
     };
     assert_eq!(load(&with_first_star([6, 5])), Ok((4, 4)));
     assert_eq!(load(&with_first_star([5, 6])), Err(Refusal(9)));
+}
+
+/// Room 4 starts with its second above-neighbour, so that its above-list runs over the start.
+#[test]
+fn an_above_list_is_read_over_the_start() {
+    let started_between = |second: usize, first: usize| {
+        job(&[
+            &[(second, 0), (1, 1), (2, 2), (3, 3), (first, 0)],
+            &[(0, 0), (1, 1), (4, 2), (6, 3)],
+            &[(0, 0), (5, 1), (4, 2), (3, 3)],
+        ])
+    };
+    assert_eq!(load(&started_between(5, 6)), Ok((4, 4)));
+    assert_eq!(load(&started_between(6, 5)), Err(Refusal(9)));
+}
+
+/// F with its stars started in every way there is, itself among them.
+fn f_started_everywhere() -> Vec<Vec<u8>> {
+    let mut all = vec![crate::job::read(&bytes(F)).unwrap()];
+    for room in 4..8 {
+        let starts = 0..all[0].star_of(room).len();
+        let started = |job: &Job, start: usize| {
+            let mut other = job.clone();
+            other.star_of_mut(room).rotate_left(start);
+            other
+        };
+        all = all
+            .iter()
+            .flat_map(|job| starts.clone().map(move |start| started(job, start)))
+            .collect();
+    }
+    all.iter().map(Job::bytes).collect()
+}
+
+#[test]
+fn f_started_elsewhere_has_the_plan_of_f() {
+    let floor = loaded(&bytes(F));
+    let mut floor_turned = floor.clone();
+    floor_turned.turn(5, 6).expect("accepted");
+    let all = f_started_everywhere();
+    assert_eq!(all.len(), 4 * 5 * 5 * 4);
+    for bytes in all {
+        let mut board = loaded(&bytes);
+        assert_eq!(board.plan(), floor.plan());
+        assert_eq!(written(&board), bytes);
+        assert_eq!(board.turn(6, 5), Ok((5, 4)));
+        assert_eq!(board.plan(), floor_turned.plan());
+        assert_eq!(board.turn(5, 6), Ok((4, 5)));
+        assert_eq!(board, loaded(&bytes));
+        assert_eq!(board.turn(4, 5), Err(Refusal(12)));
+    }
+}
+
+/// Room 4 lists the four frame sides and rooms 5 to 8, which list it; only the run of its kinds differs.
+fn with_kinds_of_room_4(star: &[(usize, u8)]) -> Vec<u8> {
+    job(&[
+        star,
+        &[(0, 0), (1, 1), (4, 2), (3, 3)],
+        &[(0, 0), (1, 1), (2, 2), (4, 3)],
+        &[(4, 0), (1, 1), (2, 2), (3, 3)],
+        &[(0, 0), (4, 1), (2, 2), (3, 3)],
+    ])
+}
+
+#[test]
+fn a_star_goes_round_once() {
+    let (n, w, s, e) = ((0, 0), (1, 1), (2, 2), (3, 3));
+    let (above, left, below, right) = ((5, 0), (6, 1), (7, 2), (8, 3));
+    let load = |star: &[(usize, u8)]| load(&with_kinds_of_room_4(star));
+    // Once round, from any start, the walls decide.
+    let mut once = [n, above, w, left, s, below, e, right];
+    for _ in 0..once.len() {
+        assert_eq!(load(&once), Err(Refusal(7)));
+        once.rotate_left(1);
+    }
+    let twice = [n, w, s, e, above, left, below, right];
+    let backwards = [right, e, below, s, left, w, above, n];
+    let jumping = [n, above, s, below, w, left, e, right];
+    let apart = [n, w, above, left, s, below, e, right];
+    for mut star in [twice, backwards, jumping, apart] {
+        for _ in 0..star.len() {
+            assert_eq!(load(&star), Err(Refusal(5)), "{star:?}");
+            star.rotate_left(1);
+        }
+    }
+    assert_eq!(load(&[n, above, s, below, e, right]), Err(Refusal(5)));
+    assert_eq!(load(&[]), Err(Refusal(5)));
+    assert_eq!(load(&[n]), Err(Refusal(5)));
+}
+
+#[test]
+fn a_neighbour_stands_once() {
+    for star in [
+        [(0, 0), (1, 1), (2, 2), (3, 3), (0, 0)],
+        [(5, 0), (1, 1), (5, 2), (3, 3), (0, 0)],
+    ] {
+        assert_eq!(load(&with_kinds_of_room_4(&star)), Err(Refusal(5)));
+    }
 }
 
 #[test]

@@ -1,6 +1,6 @@
-//! Turning one contact by the written rule.
+//! Turning one contact by the written rule: two kinds change where they stand, and no entry moves.
 
-use crate::job::{Job, Star};
+use crate::job::{round, Job, Star};
 use crate::{refusal, Refusal, ABOVE, BELOW, LEFT, RIGHT};
 
 /// The turned labelling, or 11 or 12. It is numbered and tested afresh by the board.
@@ -48,25 +48,24 @@ fn find_contact(job: &Job, one: usize, other: usize) -> Option<Contact> {
     Some(Contact { u, v, kind })
 }
 
-/// The neighbours of one kind, in the star's order.
+/// The neighbours of one kind, in circular order from where the list begins: behind an entry of another kind.
 fn list(star: &Star, kind: u8) -> Vec<usize> {
+    let begin = round(star)
+        .position(|(entry, next)| entry.kind != kind && next.kind == kind)
+        .map_or(0, |before| before + 1);
     star.iter()
-        .filter(|entry| entry.kind == kind)
+        .cycle()
+        .skip(begin)
+        .take(star.len())
+        .take_while(|entry| entry.kind == kind)
         .map(|entry| entry.neighbour)
         .collect()
 }
 
-/// No entry changes its place, except over the star's seam between its end (right) and its front (above).
 fn change_kind(star: &mut Star, neighbour: usize, new_kind: u8) {
-    let place = star
-        .iter()
-        .position(|entry| entry.neighbour == neighbour)
+    let entry = star
+        .iter_mut()
+        .find(|entry| entry.neighbour == neighbour)
         .expect("both rooms of a contact list each other");
-    let old_kind = star[place].kind;
-    star[place].kind = new_kind;
-    if place == 0 && (old_kind, new_kind) == (ABOVE, RIGHT) {
-        star.rotate_left(1);
-    } else if place + 1 == star.len() && (old_kind, new_kind) == (RIGHT, ABOVE) {
-        star.rotate_right(1);
-    }
+    entry.kind = new_kind;
 }

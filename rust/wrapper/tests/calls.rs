@@ -26,12 +26,12 @@ const F_PLAN: &[u8] = &[
     4, 0, 5, 7, 2, 1, 3, 2, // 7
 ];
 
-/// F with the contact of 5 and 6 turned.
+/// F with the contact of 5 and 6 turned: two kinds change where they stand.
 const P9: &[u8] = &[
     1, 0, 1, 4, // four rooms
     2, 0, 8, 0, 0, 1, 1, 6, 2, 5, 3, // 4
     2, 0, 10, 0, 0, 4, 1, 6, 2, 7, 2, 3, 3, // 5
-    2, 0, 10, 5, 0, 4, 0, 1, 1, 2, 2, 7, 3, // 6
+    2, 0, 10, 4, 0, 1, 1, 2, 2, 7, 3, 5, 0, // 6
     2, 0, 8, 5, 0, 6, 1, 2, 2, 3, 3, // 7
 ];
 

@@ -1,3 +1,4 @@
+use Rattle.drawing.specs.Drawn.{drawnAny}
 use Rattle.board.proofs.Answering.{stars-drawn}
 use borrow.Author.Needs.{needs}
 use Rattle.board.proofs.draw_stars.Statement.{statement}
@@ -10,7 +11,7 @@ draw-requires : tie.Need-draw-requires
 draw-requires c κs = search needs
 
 returns : tie.Need-returns
-returns c = search (stars-drawn, needs)
+returns c = search (stars-drawn drawnAny, needs)
 
 pub draw-stars-spec : {M : Type 1} → statement M
 draw-stars-spec = tie.close (tie.spec wide-requires draw-requires returns)

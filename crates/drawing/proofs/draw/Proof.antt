@@ -1,43 +1,19 @@
-use Rattle.drawing.proofs.Judging.{seven-drawn, placed-asks, nine-drawn, all-drawn, stars-many}
+use Rattle.drawing.proofs.Judging.{undrawn, nine-drawn, all-drawn}
 use borrow.Author.Needs.{needs}
 use Rattle.drawing.proofs.draw.Statement.{statement}
 use Rattle.drawing.proofs.draw.Tie as tie
 
-walls-of-requires : tie.Need-walls-of-requires
-walls-of-requires c κs = search needs
+plan-stars-requires : tie.Need-plan-stars-requires
+plan-stars-requires c κs = search needs
 
-enum-told : tie.Need-enum-told
-enum-told c = search needs
-
-enum-told-2 : tie.Need-enum-told-2
-enum-told-2 c = search needs
+enum-known-answer : tie.Need-enum-known-answer
+enum-known-answer c = search needs
 
 refused-requires : tie.Need-refused-requires
 refused-requires c κs = search needs
 
-returns : tie.Need-returns
-returns c = search (seven-drawn, needs)
-
-slice-aggregate-sheet-at : tie.Need-slice-aggregate-sheet-at
-slice-aggregate-sheet-at c = search needs
-
-slice-aggregate-sheet-at-2 : tie.Need-slice-aggregate-sheet-at-2
-slice-aggregate-sheet-at-2 c = search needs
-
-sheet-at-requires : tie.Need-sheet-at-requires
-sheet-at-requires c κs = search needs
-
-slice-aggregate-plan-of : tie.Need-slice-aggregate-plan-of
-slice-aggregate-plan-of c = search needs
-
-slice-aggregate-plan-of-2 : tie.Need-slice-aggregate-plan-of-2
-slice-aggregate-plan-of-2 c = search needs
-
-plan-of-requires : tie.Need-plan-of-requires
-plan-of-requires c κs =
-    let sheet = c .before .before in
-    let told = sheet .before .before .before .before .before .before .before in
-    placed-asks _ _ (told .before .before .walls-of .ensures) (told .enum-told .given .1) _ (sheet .sheet-at .ensures) _ (stars-many _ _ _ _)
+enum-told : tie.Need-enum-told
+enum-told c = search needs
 
 wide-requires : tie.Need-wide-requires
 wide-requires c κs = search needs
@@ -51,42 +27,35 @@ drawable-requires c κs = search needs
 refused-requires-2 : tie.Need-refused-requires-2
 refused-requires-2 c κs = search needs
 
+returns : tie.Need-returns
+returns c = let tested = c .before .before in
+    let rooms = tested .before .before .before .before in
+    let told = rooms .before in
+    nine-drawn _ _ (told .before .before .before .plan-stars .ensures) (told .enum-told .given .1) _ (rooms .wide .ensures .0) _ (tested .drawable .ensures)
+    (c .before .if1 .taken) _ (c .refused2 .ensures)
+
 returns-2 : tie.Need-returns-2
-returns-2 c =
-    let tested = c .before .before in
-    let plan = tested .before .before .before .before .before in
-    let sheet = plan .before .before .before in
-    let told = sheet .before .before .before .before .before .before .before in
-    nine-drawn _ _ (told .before .before .walls-of .ensures) (told .enum-told .given .1) _ (sheet .sheet-at .ensures) _ _ (stars-many _ _ _ _)
-    (plan .plan-of .ensures) _ (tested .before .before .before .before .wide .ensures .0) _ (tested .drawable .ensures) _ (c .before .if1 .taken) (c .refused2 .ensures)
+returns-2 c = search (undrawn, needs)
 
 returns-3 : tie.Need-returns-3
-returns-3 c =
-    let tested = c .before in
-    let plan = tested .before .before .before .before .before in
-    let sheet = plan .before .before .before in
-    let told = sheet .before .before .before .before .before .before .before in
-    all-drawn _ _ (told .before .before .walls-of .ensures) (told .enum-told .given .1) _ (sheet .sheet-at .ensures) _ _ (stars-many _ _ _ _)
-    (plan .plan-of .ensures) _ (tested .before .before .before .before .wide .ensures .0) _ (tested .drawable .ensures) (c .if1 .left)
+returns-3 c = let tested = c .before in
+    let rooms = tested .before .before .before .before in
+    let told = rooms .before in
+    all-drawn _ _ (told .before .before .before .plan-stars .ensures) (told .enum-told .given .1) _ (rooms .wide .ensures .0) _ (tested .drawable .ensures)
+    (c .if1 .left)
 
 pub draw-spec : {M : Type 1} → statement M
 draw-spec =
     tie.close
     (tie.spec
-    walls-of-requires
-    enum-told
-    enum-told-2
+    plan-stars-requires
+    enum-known-answer
     refused-requires
-    returns
-    slice-aggregate-sheet-at
-    slice-aggregate-sheet-at-2
-    sheet-at-requires
-    slice-aggregate-plan-of
-    slice-aggregate-plan-of-2
-    plan-of-requires
+    enum-told
     wide-requires
     add-many
     drawable-requires
     refused-requires-2
+    returns
     returns-2
     returns-3)

@@ -5,7 +5,6 @@ use mathlib.Core.Logic.{_⊎_, inl, inr, _↔_}
 use mathlib.Core.Bool.{Bool, true, false, cond, _&&_, _||_}
 use mathlib.Core.Option.{Option, none, some}
 use mathlib.Core.List.{List, _∷_, _++_, List·Memᴰ}
-use native.Mathlib.Omega.{arith}
 use lib.Dec.{eqb}
 use lib.ListN.{length, getD}
 use borrow.Author.Tests.{le-leb}
@@ -19,7 +18,7 @@ use Rattle.floor.specs.Jobs.Facts.{room-is, Passes, labelling-passes, pa
 use Rattle.floor.specs.Walls.{Numbers, Axis, upright, level, rules, at, jobNumbers}
 use Rattle.floor.specs.Walls.Walk.{unique, numbers-respects}
 use Rattle.floor.specs.Walls.Rules.{numbered, numbers-are, to-vertex}
-use Rattle.floor.specs.Plans.{Plan, planOf, drawable, Answer, refused, held, past, tested, planned, drawn, drawRead, Numbered}
+use Rattle.floor.specs.Plans.{Plan, planOf, drawable, Answer, held, past, tested, planned, drawn, drawRead, Numbered}
 use Rattle.floor.specs.Plans.Held.{Drawn, drawn-held, drawn-again}
 use Rattle.floor.specs.Turns.Swing.{named-front}
 use Rattle.floor.specs.Turns.Ends.{opposite-opposite}
@@ -157,7 +156,7 @@ turn-answers j u v = unfold turning in passing-answers ofTurn _ 11 _ refl (go _ 
     go false u v k = unfold turningFrom in at-answers v u (opposite k)
 
 -- in a star that names each once, an entry's kind is found
-kind-found : (s : Star) (v k : ℕ) → GoodStar s → List·Memᴰ (entry v k) s → kindOf s v ≡ k
+pub kind-found : (s : Star) (v k : ℕ) → GoodStar s → List·Memᴰ (entry v k) s → kindOf s v ≡ k
 kind-found s v k g m = let c : Apart (entry v k) s = apart-at (entry v k) s m in go (c .front) (c .rest) (c .whole)
   where
     go : (P Q : Star) → s ≡ P ++ entry v k ∷ Q → kindOf s v ≡ k

@@ -1,15 +1,15 @@
 -- A good plan in the customer's words and a good placement in the theory's are one. Assumes nothing.
 use mathlib.Core.Path.{_≡_, sym, ap, _∙_}
-use mathlib.Core.List.{[], _∷_, List·Memᴰ, List·Memᴰ·head, List·Memᴰ·tail}
+use mathlib.Core.List.{[], List·Memᴰ}
 use Prim.Native.Nat.{ℕ, _+_, _-_, _≤_, _<_}
 use native.Mathlib.Omega.{arith}
 use lib.ListN.{length, getD}
 use Rattle.floor.specs.Jobs.{Entry, Star, Job, Vertex, Room, starOf}
-use Rattle.floor.specs.Jobs.Stars.{Sorted, AtLeast}
+use Rattle.floor.specs.Jobs.Round.{restart-back, restart-mem}
+use Rattle.floor.specs.Jobs.Straight.{straight, straight-restarts}
 use Rattle.floor.specs.Jobs.Facts.{Passes, star-at, star-room}
 use Rattle.floor.specs.Plans.{Plan, rectOf}
-use Rattle.floor.specs.Floor.{Cell, Point, Stands, Shares, Onward, Joined, Earlier, here, there, Different, ExactlyOne, Complete, Floor, Framed, Inside}
-use Rattle.floor.specs.Floor.{GoodPlan}
+use Rattle.floor.specs.Floor.{Cell, Point, Stands, Shares, Joined, Different, ExactlyOne, Complete, Floor, Framed, Inside, GoodPlan}
 use Rattle.floor.specs.Floor.Sides.{Side, up, left, down, right, opp, round, around as each-side, Piece, side, room, size, Known, Meets, Contact, Shape}
 use Rattle.floor.specs.Floor.Sides.{Good}
 use Rattle.floor.specs.Floor.Whole.{flip, frame-meets, strict}
@@ -19,6 +19,7 @@ use Rattle.floor.specs.Floor.Read.{num, number, piece, number-piece, num
 use Rattle.floor.specs.Floor.Read.{known-vertex, known-piece, entry-ok, lawful}
 use Rattle.floor.specs.Floor.Joins.{joined-contact, contact-joined, side-of}
 use Rattle.floor.specs.Floor.Placed.{reach, placeOf, tile-at, knot-at, framed-shape, inside-place, thick-place, stands-meets, meets-stands, in-cell}
+use Rattle.floor.specs.Floor.Order.{InOrder, order-counterclockwise, counterclockwise-order}
 use Rattle.floor.specs.Floor.Placed.{cell-at, point-at, on-point, cover-place, alone-place, order-lists, lists-order}
 
 module _ (j : Job) (ok : Passes j) (p : Plan) where
@@ -120,8 +121,10 @@ module _ (j : Job) (ok : Passes j) (p : Plan) where
       joined = λ k u v hu hv m. side-of (starsOf j) (placeOf p) thick meets k u v hu hv (some k u v hu hv m) m;
       meets = meets;
       order = λ k i h.
-          order-lists j p (gp .inside) k (getD j i []) (λ e m. entry-ok j ok i h e m .below)
-          (λ d e x. f .order (4 + i) (omega arith, omega arith) d e (rw (star-at j i) x));
+          order-lists j p (gp .inside) k (straight (getD j i []))
+          (λ e m. entry-ok j ok i h e (restart-mem (restart-back (straight-restarts (getD j i []))) m) .below)
+          (rw (star-at j i) at (counterclockwise-order p (starOf j (4 + i)) (ok .good (4 + i) (omega arith, omega arith))
+          (f .counterclockwise (4 + i) (omega arith, omega arith))));
     }
 
   -- GOOD IS THE CUSTOMER'S GOOD PLAN
@@ -216,15 +219,6 @@ module _ (j : Job) (ok : Passes j) (p : Plan) where
         (meets-stands j p ins k (room i) (piece (e .to)) h hv
         (g .meets k (room i) (piece (e .to)) h hv (entry-mem (getD j i []) (num k) e m (sym {a = num k} q))))
 
-    -- kinds never fall
-    rising : (s : Star) → Sorted s → (d e : Entry) → Earlier d e s → d .kind ≤ e .kind
-    rising (x ∷ s) o d e (there r) = rising s (o .1) d e r
-    rising (x ∷ s) o d e (here m) = least s (o .0) m
-      where
-        least : (s : Star) → AtLeast (d .kind) s → List·Memᴰ e s → d .kind ≤ e .kind
-        least (y ∷ s) a (List·Memᴰ·head q) = rw q (a .0)
-        least (y ∷ s) a (List·Memᴰ·tail m) = least s (a .1) m
-
     -- a room by its place
     at-place : (u : ℕ) → Room j u → (Q : ℕ → Star → Type 0) → ((i : ℕ) → i < length j → Q (4 + i) (getD j i [])) → Q u (starOf j u)
     at-place u r Q h =
@@ -243,11 +237,10 @@ module _ (j : Job) (ok : Passes j) (p : Plan) where
         no-four = none-four;
         contacts = λ u v hu hv ne. (shares-joined u v hu hv, joined-shares u v hu hv);
         stands = λ u r. at-place u r (λ u s. (e : Entry) → List·Memᴰ e s → Stands (e .kind) (rectOf p u) (rectOf p (e .to))) entry-stands;
-        sides = λ u r. rising (starOf j u) (ok .good u r .sorted);
-        order = λ u r.
-            at-place u r (λ u s. (d e : Entry) → Earlier d e s → d .kind ≡ e .kind → Onward (d .kind) (rectOf p (d .to)) (rectOf p (e .to)))
+        counterclockwise = λ u r. order-counterclockwise p (starOf j u) (ok .good u r) (at-place u r (λ u s. InOrder p (straight s))
             (λ i h.
-            lists-order p (getD j i []) (λ e m. omega (arith, entry-ok j ok i h e m .small)) (λ k. strict (starsOf j) (placeOf p) (lawful j ok)
-            (good-local (starsOf j) (placeOf p) (lawful j ok) g) k i h));
+            lists-order p (straight (getD j i []))
+            (λ e m. omega (arith, entry-ok j ok i h e (restart-mem (restart-back (straight-restarts (getD j i []))) m) .small))
+            (λ k. strict (starsOf j) (placeOf p) (lawful j ok) (good-local (starsOf j) (placeOf p) (lawful j ok) g) k i h)));
       };
     }

@@ -1,8 +1,8 @@
 -- The drawing test item by item, as facts about the rectangles; and the way back. Assumes nothing.
-use mathlib.Core.Path.{_≡_, refl, sym, ap, _∙_}
+use mathlib.Core.Path.{_≡_, sym, ap, _∙_}
 use mathlib.Core.Logic.{_⊎_, inl, inr}
 use mathlib.Core.Bool.{Bool, true, not, _&&_, _||_}
-use mathlib.Core.List.{[], _∷_, map}
+use mathlib.Core.List.{[], map}
 use Prim.Native.Nat.{ℕ, zero, suc, _+_, _-_, _*_, _≤_, _<_, max}
 use native.Mathlib.Omega.{arith}
 use native.Mathlib.Decide.{decLt}
@@ -11,13 +11,15 @@ use borrow.Author.Tests.{leb-true, ltb-true, eqb-true, le-leb, lt-ltb, eq-eqb}
 use Rattle.floor.specs.Lists.{all, pairwise, sum}
 use Rattle.floor.specs.Lists.Laws.{and-parts, and-both, or-cases, or-left, or-right, not-of, not-and, implies, implied, all-mem, mem-all, mem-getD}
 use Rattle.floor.specs.Lists.Laws.{getD-mem, all-at, at-pairwise, pairwise-at}
-use Rattle.floor.specs.Jobs.{Entry, Star, Job, Vertex, Room, starOf}
-use Rattle.floor.specs.Jobs.Facts.{star-room, star-at}
-use Rattle.floor.specs.Plans.{Rect, Plan, nowhere, rectOf, inside, overlap, abut, apart, area, share, corner, joined, sharesJoined, follows, inOrder}
+use Rattle.floor.specs.Jobs.{Job, Vertex, Room, starOf}
+use Rattle.floor.specs.Jobs.Facts.{Passes, star-room, star-at}
+use Rattle.floor.specs.Jobs.Straight.{straight}
+use Rattle.floor.specs.Plans.{Rect, Plan, nowhere, rectOf, inside, overlap, abut, apart, area, share, corner, joined, sharesJoined, roundInOrder}
 use Rattle.floor.specs.Plans.{drawable}
-use Rattle.floor.specs.Floor.{Cell, Wall, Stands, Shares, Onward, Earlier, here, there, Joined, Complete, Inside}
+use Rattle.floor.specs.Floor.{Cell, Wall, Stands, Shares, Joined, Complete, Inside}
 use Rattle.floor.specs.Floor.Joins.{joined-of, of-joined}
 use Rattle.floor.specs.Floor.Placed.{wall-at}
+use Rattle.floor.specs.Floor.Order.{InOrder, round-order, order-round}
 
 -- the stretches from a to b and from c to d touch end to end
 abbrev pub Touch : ℕ → ℕ → ℕ → ℕ → Type 0
@@ -31,7 +33,7 @@ pub record Draws (j : Job) (p : Plan) : Type 0 where
   pub shares : (u v : ℕ) → u < v → Vertex j v → Shares (rectOf p u) (rectOf p v) → Joined j u v
   pub corners : (u v : ℕ) → u < v → Vertex j v → Touch (rectOf p u .x1) (rectOf p u .x2) (rectOf p v .x1) (rectOf p v .x2)
       → Touch (rectOf p u .y1) (rectOf p u .y2) (rectOf p v .y1) (rectOf p v .y2) → ⊥
-  pub order : (u : ℕ) → Room j u → (d e : Entry) → Earlier d e (starOf j u) → d .kind ≡ e .kind → Onward (d .kind) (rectOf p (d .to)) (rectOf p (e .to))
+  pub order : (u : ℕ) → Room j u → InOrder p (straight (starOf j u))
 
 -- inside the sheet
 inside-of : (p : Plan) (r : Rect) → inside p r ≡ true → Inside p r
@@ -162,44 +164,7 @@ of-shares r s h = go (h .side) (h .few) (h .stands)
     go (suc (suc (suc zero))) l w = across (inl (w .line)) (of-wall w)
     go (suc (suc (suc (suc k)))) l w = absurd (omega arith)
 
--- the order of a kind
-onward-of : (k : ℕ) (r s : Rect) → follows k r s ≡ true → Onward k r s
-unfolding follows
-onward-of zero r s h = ltb-true (s .x1) (r .x1) h
-onward-of (suc zero) r s h = ltb-true (s .y1) (r .y1) h
-onward-of (suc (suc zero)) r s h = ltb-true (r .x1) (s .x1) h
-onward-of (suc (suc (suc k))) r s h = ltb-true (r .y1) (s .y1) h
-
--- a rectangle that comes after another by its kind passes the test
-of-onward : (k : ℕ) (r s : Rect) → Onward k r s → follows k r s ≡ true
-unfolding follows
-of-onward zero r s h = lt-ltb (s .x1) (r .x1) h
-of-onward (suc zero) r s h = lt-ltb (s .y1) (r .y1) h
-of-onward (suc (suc zero)) r s h = lt-ltb (r .x1) (s .x1) h
-of-onward (suc (suc (suc k))) r s h = lt-ltb (r .y1) (s .y1) h
-
--- in a star that passes the test of order, a later entry of the same kind stands onward
-star-of : (p : Plan) (s : Star) → pairwise (inOrder p) s ≡ true → (d e : Entry) → Earlier d e s → d .kind ≡ e .kind
-    → Onward (d .kind) (rectOf p (d .to)) (rectOf p (e .to))
-unfolding pairwise inOrder
-star-of p (c ∷ s) h d e (here m) same =
-    onward-of (c .kind) (rectOf p (c .to)) (rectOf p (e .to))
-    (implied (eqb (c .kind) (e .kind)) _ (all-mem (inOrder p c) s (and-parts _ _ h .0) e m) (eq-eqb (c .kind) (e .kind) same))
-star-of p (c ∷ s) h d e (there x) same = star-of p s (and-parts (all (inOrder p c) s) _ h .1) d e x same
-
--- a star in which later entries of the same kind stand onward passes the test of order
-of-star : (p : Plan) (s : Star) → ((d e : Entry) → Earlier d e s → d .kind ≡ e .kind → Onward (d .kind) (rectOf p (d .to)) (rectOf p (e .to)))
-    → pairwise (inOrder p) s ≡ true
-unfolding pairwise inOrder
-of-star p [] h = refl
-of-star p (c ∷ s) h =
-    and-both _ _
-    (mem-all (inOrder p c) s
-    (λ e m. implies (eqb (c .kind) (e .kind)) _ (λ q. of-onward (c .kind) (rectOf p (c .to)) (rectOf p (e .to))
-    (h c e (here m) (eqb-true (c .kind) (e .kind) q)))))
-    (of-star p s (λ d e x. h d e (there x)))
-
-module _ (j : Job) (p : Plan) (c : Complete j p) where
+module _ (j : Job) (ok : Passes j) (p : Plan) (c : Complete j p) where
   -- a test of pairs, at two vertices
   pair-at : (t : Rect → Rect → Bool) → pairwise t (p .rects) ≡ true → (u v : ℕ) → u < v → Vertex j v → t (rectOf p u) (rectOf p v) ≡ true
   unfolding rectOf
@@ -245,7 +210,7 @@ module _ (j : Job) (p : Plan) (c : Complete j p) where
             (and-both _ _ (of-touch (rectOf p u .x1) (rectOf p u .x2) (rectOf p v .x1) (rectOf p v .x2) x)
             (of-touch (rectOf p u .y1) (rectOf p u .y2) (rectOf p v .y1) (rectOf p v .y2) y));
         order = λ u r.
-            star-of p (starOf j u) (all-mem (pairwise (inOrder p)) j order (starOf j u)
+            round-order p (starOf j u) (ok .good u r) (all-mem (roundInOrder p) j order (starOf j u)
             (rw (star-room j u (r .0)) (mem-getD j (u - 4) [] (omega (arith, r .0, r .1)))));
       }
 
@@ -271,5 +236,8 @@ module _ (j : Job) (p : Plan) (c : Complete j p) where
       let (x, y) = and-parts _ _ e in
       d .corners u v l hv (touch-of (rectOf p u .x1) (rectOf p u .x2) (rectOf p v .x1) (rectOf p v .x2) x)
       (touch-of (rectOf p u .y1) (rectOf p u .y2) (rectOf p v .y1) (rectOf p v .y2) y)))))
-      (mem-all (pairwise (inOrder p)) j
-      (λ s m. let (i, l, e) = getD-mem j s [] m in of-star p s (rw (star-at j i, e) at (d .order (4 + i) (omega arith, omega arith)))))
+      (mem-all (roundInOrder p) j
+      (λ s m.
+      let (i, l, e) = getD-mem j s [] m in
+      order-round p s (rw (star-at j i, e) at (ok .good (4 + i) (omega arith, omega arith)))
+      (rw (star-at j i, e) at (d .order (4 + i) (omega arith, omega arith)))))

@@ -1,17 +1,14 @@
 -- Plans drawn elsewhere: where a job has any good plan, its walls run in no circle, and the plan by wall numbers is good. Assumes nothing.
 use mathlib.Core.Path.{_≡_, refl, _∙_}
-use mathlib.Core.Bool.{cond}
 use mathlib.Core.Option.{some}
 use mathlib.Core.List.{List, [], List·Memᴰ}
-use Prim.Native.Nat.{ℕ, _+_, _-_, _*_, _/_, _%_, _≤_, _<_}
+use Prim.Native.Nat.{ℕ, _+_, _-_, _≤_, _<_}
 use native.Mathlib.Omega.{arith}
-use lib.Dec.{eqb}
 use lib.ListN.{length, getD}
-use borrow.Author.Tests.{eq-eqb, ne-eqb}
 use Rattle.floor.specs.Jobs.{Entry, Job}
 use Rattle.floor.specs.Jobs.Facts.{Passes}
 use Rattle.floor.specs.Walls.{Respects, Axis, upright, level, low, high, rules, at, jobNumbers}
-use Rattle.floor.specs.Walls.Rules.{Obeys, obeys-respects, numbered, numbers-are, to-vertex}
+use Rattle.floor.specs.Walls.Rules.{Obeys, obeys-respects, numbered, numbers-are, to-vertex, sided, sided-low, sided-high}
 use Rattle.floor.specs.Plans.{Plan, planOf}
 use Rattle.floor.specs.Floor.{GoodPlan}
 use Rattle.floor.specs.Floor.Sides.{Side, up, right, opp, round, Piece, room, Place, size, Known, Meets, Good}
@@ -24,17 +21,17 @@ use Rattle.floor.specs.Floor.Ours.{plan-complete, plan-fits}
 
 -- the place of a wall's side, read off a plan in direction k
 unfoldable measure : Place → Side → ℕ → ℕ
-measure p k n = cond (eqb (n % 2) 0) (size p k - p .at (opp k) (piece (n / 2))) (p .at k (piece (n / 2)))
+measure p k = sided (λ v. size p k - p .at (opp k) (piece v)) (λ v. p .at k (piece v))
 
 -- the low side of a vertex is placed where the vertex begins in that direction
 measure-low : (p : Place) (k : Side) (v : ℕ) → measure p k (low v) ≡ size p k - p .at (opp k) (piece v)
 unfolding measure
-measure-low p k v = let e : (2 * v) / 2 ≡ v = omega arith in rw (eq-eqb ((2 * v) % 2) 0 (omega arith), e)
+measure-low p k = sided-low (λ v. size p k - p .at (opp k) (piece v)) (λ v. p .at k (piece v))
 
 -- the high side of a vertex is placed where the vertex ends in that direction
 measure-high : (p : Place) (k : Side) (v : ℕ) → measure p k (high v) ≡ p .at k (piece v)
 unfolding measure
-measure-high p k v = let e : (2 * v + 1) / 2 ≡ v = omega arith in rw (ne-eqb ((2 * v + 1) % 2) 0 (λ z. omega arith), e)
+measure-high p k = sided-high (λ v. size p k - p .at (opp k) (piece v)) (λ v. p .at k (piece v))
 
 module _ (j : Job) (ok : Passes j) (p : Place) (g : Good (starsOf j) p) where
   -- an entry's neighbour is a vertex of the job, and meets the room on the side of its kind

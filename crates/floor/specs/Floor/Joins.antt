@@ -9,14 +9,15 @@ use lib.Dec.{ltb, eqb}
 use lib.ListN.{getD}
 use borrow.Author.Tests.{eqb-true, ltb-true, eq-eqb}
 use Rattle.floor.specs.Lists.Laws.{and-parts, or-cases, or-left, or-right, any-mem, mem-any}
-use Rattle.floor.specs.Jobs.{Entry, Job, starOf, listOf, names as namesIn}
+use Rattle.floor.specs.Jobs.{Entry, Job, starOf, names as namesIn}
 use Rattle.floor.specs.Jobs.Facts.{Passes, star-at, star-frame}
 use Rattle.floor.specs.Plans.{nextSide, joined}
 use Rattle.floor.specs.Floor.{Names, Around, n-w, w-s, s-e, e-n, Joined, names, named, around, around′}
 use Rattle.floor.specs.Floor.Sides.{Side, up, left, down, right, opp, round, Piece, side, room, Place, size, Stars, Known, Contact, Beside, wn, ws, ne}
 use Rattle.floor.specs.Floor.Sides.{se, nw, sw, en, es, Meets}
 use Rattle.floor.specs.Floor.Whole.{beside-back}
-use Rattle.floor.specs.Floor.Read.{num, number, piece, piece-number, number-same, few-sides, kind-side, starsOf, mem-entry, entry-mem, entry-ok, lawful}
+use Rattle.floor.specs.Floor.Read.{num, number, piece, piece-number, number-same, few-sides, kind-side, standing, starsOf, mem-entry, entry-mem, entry-ok}
+use Rattle.floor.specs.Floor.Read.{lawful}
 
 -- the test whether a star names a vertex
 names-of : (j : Job) (u v : ℕ) → namesIn (starOf j u) v ≡ true → Names j u v
@@ -116,7 +117,7 @@ module _ (j : Job) (ok : Passes j) where
       none m = elim m [ ]
   names-contact (room i) v hu n = go (n .entry) (rw (star-at j i) at (n .listed)) (n .is-to)
     where
-      go : (e : Entry) → List·Memᴰ e (getD j i []) → e .to ≡ number v → (c : Side) × List·Memᴰ v (map piece (listOf (getD j i []) (num c)))
+      go : (e : Entry) → List·Memᴰ e (getD j i []) → e .to ≡ number v → (c : Side) × List·Memᴰ v (map piece (standing (getD j i []) (num c)))
       go e m te =
           let (c, q) = kind-side (e .kind) (omega (arith, entry-ok j ok i hu e m .small)) in
           (c, rw (ap piece te ∙ piece-number v) at (entry-mem (getD j i []) (num c) e m (sym {a = num c} q)))
@@ -146,7 +147,7 @@ module _ (j : Job) (ok : Passes j) where
   contact-joined k (side t) (side r) m = beside-joined j m
 
 -- two pieces meet on one side only
-meet-once : (p : Place) (k c : Side) (u v : Piece) → size p k < p .at k u + p .at (opp k) u → size p k < p .at k v + p .at (opp k) v → Meets p k u v
+pub meet-once : (p : Place) (k c : Side) (u v : Piece) → size p k < p .at k u + p .at (opp k) u → size p k < p .at k v + p .at (opp k) v → Meets p k u v
     → Meets p c u v → c ≡ k
 meet-once p up up u v a b m n = refl
 meet-once p left left u v a b m n = refl

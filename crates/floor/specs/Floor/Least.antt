@@ -1,36 +1,18 @@
 -- Nothing smaller with the same contacts: no placing that meets every contact has a smaller number anywhere. Assumes nothing.
-use mathlib.Core.Path.{_≡_, refl, sym, ap, _∙_}
-use mathlib.Core.Bool.{cond}
+use mathlib.Core.Path.{_≡_, refl, sym, _∙_}
 use mathlib.Core.List.{[], List·Memᴰ}
-use Prim.Native.Nat.{ℕ, _+_, _-_, _*_, _/_, _%_, _≤_, _<_, max}
+use Prim.Native.Nat.{ℕ, _+_, _≤_, _<_, max}
 use native.Mathlib.Omega.{arith}
-use lib.Dec.{eqb}
 use lib.ListN.{length, getD}
-use borrow.Author.Tests.{eq-eqb, ne-eqb}
 use Rattle.floor.specs.Jobs.{Entry, Job, Vertex, Room, starOf}
 use Rattle.floor.specs.Jobs.Facts.{Passes, star-at}
 use Rattle.floor.specs.Walls.{Numbers, upright, level, low, high, rules}
-use Rattle.floor.specs.Walls.Rules.{Obeys, obeys-respects, numbers-least}
+use Rattle.floor.specs.Walls.Rules.{Obeys, to-vertex, least-below, sided, sided-low, sided-high, sided-same, sided-before}
 use Rattle.floor.specs.Plans.{Plan, rectOf}
 use Rattle.floor.specs.Floor.{Stands}
 use Rattle.floor.specs.Floor.Sides.{Side, up, right, opp}
 use Rattle.floor.specs.Floor.Read.{num, few-sides, every-kind, entry-ok}
 use Rattle.floor.specs.Floor.Ours.{Way, Lies, lies}
-
--- a side's place, 1 at least
-unfoldable places : (ℕ → ℕ) → (ℕ → ℕ) → ℕ → ℕ
-places from to n = max 1 (cond (eqb (n % 2) 0) (from (n / 2)) (to (n / 2)))
-
-module _ (from to : ℕ → ℕ) where
-  -- the low side of a vertex has the place where it begins, 1 at least
-  places-low : (v : ℕ) → places from to (low v) ≡ max 1 (from v)
-  unfolding places
-  places-low v = let e : (2 * v) / 2 ≡ v = omega arith in rw (eq-eqb ((2 * v) % 2) 0 (omega arith), e)
-
-  -- the high side of a vertex has the place where it ends, 1 at least
-  places-high : (v : ℕ) → places from to (high v) ≡ max 1 (to v)
-  unfolding places
-  places-high v = let e : (2 * v + 1) / 2 ≡ v = omega arith in rw (ne-eqb ((2 * v + 1) % 2) 0 (λ z. omega arith), e)
 
 -- ours is no larger, side by side
 pub record NoLarger (j : Job) (f from to : ℕ → ℕ) (first last : ℕ) : Type 0 where
@@ -52,41 +34,37 @@ module _ (j : Job) (ok : Passes j) (some-room : 0 < length j) (w : Way j) (c : S
       omega (arith, met i h e m .1 q, thick (e .to) (entry-ok j ok i h e m .below))
 
   -- the places do what the job says
-  obeys : Obeys (w .axis) (places from to) j
+  obeys : Obeys (w .axis) (sided from to) j
   obeys = record {
-    own = λ i h. rw (places-low from to (4 + i), places-high from to (4 + i)) (omega (arith, positive i h, thick (4 + i) (omega arith)));
+    own = λ i h. sided-before from to (4 + i) (4 + i) 0 (omega (arith, thick (4 + i) (omega arith)));
     each = λ i h e m. record {
-      if-far = λ q. rw (places-high from to (4 + i), places-low from to (e .to)) (ap (λ n. max 1 n) (met i h e m .0 (q ∙ w .is-far)));
-      if-near = λ q. rw (places-high from to (e .to), places-low from to (4 + i)) (ap (λ n. max 1 n) (sym (met i h e m .1 (q ∙ w .is-near))));
+      if-far = λ q. sided-same from to (4 + i) (e .to) (met i h e m .0 (q ∙ w .is-far));
+      if-near = λ q. sided-same from to (e .to) (4 + i) (sym (met i h e m .1 (q ∙ w .is-near)));
       if-cross = λ q l.
           let (a, b) = met i h e m .2 (q ∙ is-cross) in
-          let z : 4 + (e .to - 4) ≡ e .to = omega arith in
-          let y : 1 ≤ from (e .to) = rw z at (positive (e .to - 4) (omega (arith, entry-ok j ok i h e m .below))) in
-          rw (places-low from to (4 + i), places-low from to (e .to), places-high from to (4 + i), places-high from to (e .to))
-          (omega (arith, positive i h), omega arith);
+          (sided-before from to (4 + i) (e .to) 0 (omega arith), sided-before from to (e .to) (4 + i) 0 (omega arith));
     };
   }
 
   -- no wall number is larger than the place of its side
-  least : (n : ℕ) → w .number-of n ≤ places from to n
-  least = numbers-least (w .axis) j (w .number-of) (places from to) (w .numbers) (λ s. unfold places in omega arith)
-      (obeys-respects (w .axis) (places from to) j obeys)
+  least : (n : ℕ) → w .number-of n ≤ max 1 (sided from to n)
+  least = least-below (w .axis) j (to-vertex j ok) (w .number-of) (sided from to) (w .numbers) obeys (λ i h. rw (sided-low from to (4 + i)) (positive i h))
 
   -- ours is no larger at any side of a room, nor at the first and the last frame side's wall
   pub no-larger : NoLarger j (w .number-of) from to (num (opp (w .to))) (num (w .to))
   no-larger = record {
-    at-low = λ i h. omega (arith, rw (places-low from to (4 + i)) at (least (low (4 + i))), positive i h);
-    at-high = λ i h. omega (arith, rw (places-high from to (4 + i)) at (least (high (4 + i))), thick (4 + i) (omega arith));
+    at-low = λ i h. omega (arith, rw (sided-low from to (4 + i)) at (least (low (4 + i))), positive i h);
+    at-high = λ i h. omega (arith, rw (sided-high from to (4 + i)) at (least (high (4 + i))), thick (4 + i) (omega arith));
     at-first =
         omega (
           arith,
-          rw (places-high from to (num (opp (w .to)))) at (least (high (num (opp (w .to))))),
+          rw (sided-high from to (num (opp (w .to)))) at (least (high (num (opp (w .to))))),
           thick (num (opp (w .to)))
               (omega (arith, few-sides (opp (w .to)))),
         );
     at-last =
         let l : Lies j ok w 0 = lies j ok w 0 some-room in
-        omega (arith, rw (places-low from to (num (w .to))) at (least (low (num (w .to)))), l .first, l .own, l .last);
+        omega (arith, rw (sided-low from to (num (w .to))) at (least (low (num (w .to)))), l .first, l .own, l .last);
   }
 
 -- a placing of all vertices, each at least a cell, in which every contact is met on its labelled side

@@ -10,7 +10,7 @@ use lib.ListN.{length, getD}
 use borrow.Author.Tests.{eqb-true, ltb-true, eq-eqb, lt-ltb}
 use Rattle.floor.specs.Lists.{all, upFrom}
 use Rattle.floor.specs.Lists.Laws.{no-false, same-test, and-parts, or-cases, or-right, all-mem, mem-all, any-mem, mem-any, upFrom-mem, mem-upFrom}
-use Rattle.floor.specs.Jobs.{Star, Job, lists, listOf}
+use Rattle.floor.specs.Jobs.{Star, Job, lists}
 use Rattle.floor.specs.Jobs.Facts.{Passes}
 use Rattle.floor.specs.Walls.{Numbers, upright, level, rules}
 use Rattle.floor.specs.Plans.{Plan, planOf, drawable}
@@ -19,7 +19,7 @@ use Rattle.floor.specs.Floor.Sides.{Rounds, Local, Fits, Base}
 use Rattle.floor.specs.Floor.Tiles.{named-known}
 use Rattle.floor.specs.Floor.Whole.{local-good}
 use Rattle.floor.specs.Floor.Parts.{good-local}
-use Rattle.floor.specs.Floor.Read.{num, piece, piece-number, starsOf, mem-entry, entry-mem, lawful}
+use Rattle.floor.specs.Floor.Read.{num, piece, piece-number, standing, starsOf, mem-entry, entry-mem, lawful}
 use Rattle.floor.specs.Floor.Placed.{placeOf}
 use Rattle.floor.specs.Floor.Bridge.{good-plan}
 use Rattle.floor.specs.Floor.Area.{total, total-one, total-some, total-unique}
@@ -135,7 +135,7 @@ side-mem down = List·Memᴰ·tail (List·Memᴰ·tail (List·Memᴰ·head refl)
 side-mem right = List·Memᴰ·tail (List·Memᴰ·tail (List·Memᴰ·tail (List·Memᴰ·head refl)))
 
 -- the frame side k stands in a star
-lists-mem : (s : Star) (k : Side) → lists s (num k) (num k) ≡ true → List·Memᴰ (side k) (map piece (listOf s (num k)))
+lists-mem : (s : Star) (k : Side) → lists s (num k) (num k) ≡ true → List·Memᴰ (side k) (map piece (standing s (num k)))
 unfolding lists
 lists-mem s k h =
     let (e, m, w) = any-mem (λ e. eqb (e .to) (num k) && eqb (e .kind) (num k)) s h in
@@ -144,7 +144,7 @@ lists-mem s k h =
     rw z at (entry-mem s (num k) e m (eqb-true (e .kind) (num k) b))
 
 -- a star with the frame side k in its list of kind k passes the test
-mem-lists : (s : Star) (k : Side) → List·Memᴰ (side k) (map piece (listOf s (num k))) → lists s (num k) (num k) ≡ true
+mem-lists : (s : Star) (k : Side) → List·Memᴰ (side k) (map piece (standing s (num k))) → lists s (num k) (num k) ≡ true
 unfolding lists
 mem-lists s k h =
     let (e, m, w, t) = mem-entry (side k) s (num k) h in

@@ -16,7 +16,7 @@ use Rattle.floor.specs.Floor.Sides.{Shape}
 use Rattle.floor.specs.Floor.Cover.{turn, turn-in, turn-out}
 use Rattle.floor.specs.Floor.Four.{Knot, On}
 use Rattle.floor.specs.Floor.Read.{num, number, piece, number-piece, piece-number, kind-side, starsOf, known-vertex, known-piece, number-same}
-use Rattle.floor.specs.Floor.Read.{mem-entry, entry-mem}
+use Rattle.floor.specs.Floor.Read.{mem-listed, listed-mem}
 
 -- how far side k of a piece reaches, from the opposite edge of the sheet
 unfoldable pub reach : Plan → Side → Piece → ℕ
@@ -230,7 +230,7 @@ module _ (j : Job) (p : Plan) (ins : (v : ℕ) → Vertex j v → Inside p (rect
           → Ordered (Precedes (placeOf p) k)
           (map piece (map (λ e. e .to) (cond b (d ∷ keep (λ e. eqb (e .kind) (num k)) s) (keep (λ e. eqb (e .kind) (num k)) s))))
       go false e below = below
-      go true e below = (λ w m. first w (mem-entry w s (num k) m), below)
+      go true e below = (λ w m. first w (mem-listed w s (num k) m), below)
         where
           kd : d .kind ≡ num k
           kd = eqb-true (d .kind) (num k) e
@@ -271,7 +271,7 @@ lists-order p (d ∷ s) n o d′ e (there x) same = lists-order p s (λ e m. n e
 lists-order p (d ∷ s) n o d′ e (here m) same =
     let (k, w) = kind-side (d .kind) (n d (List·Memᴰ·head refl)) in
     rw (← w) (strict-onward p k (d .to) (e .to) (first k (eqb (d .kind) (num k)) (eq-eqb (d .kind) (num k) (sym w)) (o k) (piece (e .to))
-    (entry-mem s (num k) e m (sym same ∙ sym w))))
+    (listed-mem s (num k) e m (sym same ∙ sym w))))
   where
     first : (k : Side) (b : Bool) → b ≡ true
         → Ordered (Strict p k) (map piece (map (λ e. e .to) (cond b (d ∷ keep (λ e. eqb (e .kind) (num k)) s) (keep (λ e. eqb (e .kind) (num k)) s))))

@@ -2,7 +2,7 @@
 use mathlib.Core.Path.{_≡_, refl, sym, ap, _∙_}
 use mathlib.Core.Logic.{_⊎_, inl, inr}
 use mathlib.Core.Bool.{Bool, true, false, cond}
-use mathlib.Core.List.{[], _∷_, map, List·Memᴰ, List·Memᴰ·head, List·Memᴰ·tail}
+use mathlib.Core.List.{List, [], _∷_, map, List·Memᴰ, List·Memᴰ·head, List·Memᴰ·tail}
 use Prim.Native.Nat.{ℕ, zero, suc, _+_, _-_, _<_}
 use native.Mathlib.Omega.{arith}
 use native.Mathlib.Decide.{decLt}
@@ -12,7 +12,9 @@ use borrow.Author.Tests.{eqb-true, eq-eqb}
 use Rattle.floor.specs.Lists.{keep}
 use Rattle.floor.specs.Lists.Laws.{count-some}
 use Rattle.floor.specs.Jobs.{Entry, Star, Job, Vertex, opposite, listOf}
+use Rattle.floor.specs.Jobs.Round.{restart-back, restart-mem}
 use Rattle.floor.specs.Jobs.Stars.{entry}
+use Rattle.floor.specs.Jobs.Straight.{straight, straight-restarts}
 use Rattle.floor.specs.Jobs.Facts.{EntryOk, Passes, star-at}
 use Rattle.floor.specs.Floor.Sides.{Side, up, left, down, right, opp, Piece, side, room, Stars, Known, Named, Lawful}
 
@@ -97,15 +99,19 @@ opposite-num left = refl
 opposite-num down = refl
 opposite-num right = refl
 
+-- the neighbours of one kind as they stand round the room, wherever the star starts
+abbrev pub standing : Star → ℕ → List ℕ
+standing s k = listOf (straight s) k
+
 -- THE STARS OF A JOB
 unfoldable pub starsOf : Job → Stars
-starsOf j = record { count = length j; list = λ k i. map piece (listOf (getD j i []) (num k)) }
+starsOf j = record { count = length j; list = λ k i. map piece (standing (getD j i []) (num k)) }
 
 -- what stands in a list is an entry of its kind, and the other way
-pub mem-entry : (v : Piece) (s : Star) (n : ℕ) → List·Memᴰ v (map piece (listOf s n)) → (e : Entry) × List·Memᴰ e s × (e .kind ≡ n) × (e .to ≡ number v)
+pub mem-listed : (v : Piece) (s : Star) (n : ℕ) → List·Memᴰ v (map piece (listOf s n)) → (e : Entry) × List·Memᴰ e s × (e .kind ≡ n) × (e .to ≡ number v)
 unfolding listOf keep
-mem-entry v [] n m = elim m [ ]
-mem-entry v (e ∷ s) n m = go (eqb (e .kind) n) refl m (mem-entry v s n)
+mem-listed v [] n m = elim m [ ]
+mem-listed v (e ∷ s) n m = go (eqb (e .kind) n) refl m (mem-listed v s n)
   where
     go : (b : Bool) → eqb (e .kind) n ≡ b
         → List·Memᴰ v (map piece (map (λ d. d .to) (cond b (e ∷ keep (λ d. eqb (d .kind) n) s) (keep (λ d. eqb (d .kind) n) s))))
@@ -115,16 +121,24 @@ mem-entry v (e ∷ s) n m = go (eqb (e .kind) n) refl m (mem-entry v s n)
     go true h (List·Memᴰ·tail m) below = let (d, i, a, b) = below m in (d, List·Memᴰ·tail i, a, b)
     go false h m below = let (d, i, a, b) = below m in (d, List·Memᴰ·tail i, a, b)
 
--- an entry of a kind stands in the list of that kind
-pub entry-mem : (s : Star) (n : ℕ) (e : Entry) → List·Memᴰ e s → e .kind ≡ n → List·Memᴰ (piece (e .to)) (map piece (listOf s n))
+-- an entry of kind n stands in the star's list of that kind
+pub listed-mem : (s : Star) (n : ℕ) (e : Entry) → List·Memᴰ e s → e .kind ≡ n → List·Memᴰ (piece (e .to)) (map piece (listOf s n))
 unfolding listOf keep
-entry-mem (d ∷ s) n e (List·Memᴰ·head q) k = rw (eq-eqb (d .kind) n (ap (λ z. z .kind) (sym q) ∙ k)) (List·Memᴰ·head (ap (λ z. piece (z .to)) q))
-entry-mem (d ∷ s) n e (List·Memᴰ·tail m) k = go (eqb (d .kind) n) (entry-mem s n e m k)
+listed-mem (d ∷ s) n e (List·Memᴰ·head q) k = rw (eq-eqb (d .kind) n (ap (λ z. z .kind) (sym q) ∙ k)) (List·Memᴰ·head (ap (λ z. piece (z .to)) q))
+listed-mem (d ∷ s) n e (List·Memᴰ·tail m) k = go (eqb (d .kind) n) (listed-mem s n e m k)
   where
     go : (b : Bool) → List·Memᴰ (piece (e .to)) (map piece (map (λ d. d .to) (keep (λ d. eqb (d .kind) n) s)))
         → List·Memᴰ (piece (e .to)) (map piece (map (λ d. d .to) (cond b (d ∷ keep (λ d. eqb (d .kind) n) s) (keep (λ d. eqb (d .kind) n) s))))
     go true below = List·Memᴰ·tail below
     go false below = below
+
+-- what stands in a list is an entry of its kind, and the other way
+pub mem-entry : (v : Piece) (s : Star) (n : ℕ) → List·Memᴰ v (map piece (standing s n)) → (e : Entry) × List·Memᴰ e s × (e .kind ≡ n) × (e .to ≡ number v)
+mem-entry v s n m = let (e, i, a, b) = mem-listed v (straight s) n m in (e, restart-mem (restart-back (straight-restarts s)) i, a, b)
+
+-- an entry of a kind stands in the list of that kind
+pub entry-mem : (s : Star) (n : ℕ) (e : Entry) → List·Memᴰ e s → e .kind ≡ n → List·Memᴰ (piece (e .to)) (map piece (standing s n))
+entry-mem s n e m k = listed-mem (straight s) n e (restart-mem (straight-restarts s) m) k
 
 -- a piece of the job is a vertex of the job
 pub known-vertex : (j : Job) (v : Piece) → Known (starsOf j) v → Vertex j (number v)
@@ -163,7 +177,7 @@ module _ (j : Job) (ok : Passes j) where
       go (no l) = inr (e .to - 4, omega (arith, entry-ok i h e m .below), omega arith)
 
   -- who stands in the list of a side is the frame side of its kind, or a room of the job
-  known : (k : Side) (i : ℕ) (v : Piece) → i < length j → List·Memᴰ v (map piece (listOf (getD j i []) (num k))) → Named (starsOf j) k v
+  known : (k : Side) (i : ℕ) (v : Piece) → i < length j → List·Memᴰ v (map piece (standing (getD j i []) (num k))) → Named (starsOf j) k v
   unfolding starsOf
   known k i v h m = let (e, me, ke, te) = mem-entry v (getD j i []) (num k) m in go v e te (leads k i h e me ke)
     where
@@ -174,11 +188,11 @@ module _ (j : Job) (ok : Passes j) where
       go (room i) e te (inr (r, hr, q)) = omega arith
 
   -- room r, listed by room i
-  backed : (k : Side) (i r : ℕ) → i < length j → List·Memᴰ (room r) (map piece (listOf (getD j i []) (num k)))
-      → List·Memᴰ (room i) (map piece (listOf (getD j r []) (num (opp k))))
+  backed : (k : Side) (i r : ℕ) → i < length j → List·Memᴰ (room r) (map piece (standing (getD j i []) (num k)))
+      → List·Memᴰ (room i) (map piece (standing (getD j r []) (num (opp k))))
   backed k i r h m = let (e, me, ke, te) = mem-entry (room r) (getD j i []) (num k) m in go e me ke te
     where
-      go : (e : Entry) → List·Memᴰ e (getD j i []) → e .kind ≡ num k → e .to ≡ 4 + r → List·Memᴰ (room i) (map piece (listOf (getD j r []) (num (opp k))))
+      go : (e : Entry) → List·Memᴰ e (getD j i []) → e .kind ≡ num k → e .to ≡ 4 + r → List·Memᴰ (room i) (map piece (standing (getD j r []) (num (opp k))))
       go e me ke te =
           let n : List·Memᴰ (entry (4 + i) (opposite (e .kind))) (getD j r []) = rw (te, star-at j r) at (ok .opposed (4 + i) (omega arith, omega arith) e
           (rw (star-at j i) me) (omega arith)) in

@@ -7,7 +7,9 @@ use Prim.Native.Nat.{ℕ, _+_, _-_, _≤_, _<_}
 use native.Mathlib.Omega.{arith}
 use native.Mathlib.Decide.{decLt}
 use lib.ListN.{length, getD}
-use Rattle.floor.specs.Jobs.{Job, Vertex}
+use Rattle.floor.specs.Jobs.{Job, Vertex, starOf}
+use Rattle.floor.specs.Jobs.Round.{restart-back, restart-mem}
+use Rattle.floor.specs.Jobs.Straight.{straight, straight-restarts}
 use Rattle.floor.specs.Jobs.Facts.{Passes, star-at}
 use Rattle.floor.specs.Plans.{Plan, rectOf, drawable}
 use Rattle.floor.specs.Floor.{Cell, Shares, Joined, Complete, Inside, GoodPlan}
@@ -17,6 +19,7 @@ use Rattle.floor.specs.Floor.Read.{num, number, piece, number-piece, few
 use Rattle.floor.specs.Floor.Joins.{joined-back, joined-contact, side-of}
 use Rattle.floor.specs.Floor.Placed.{reach, placeOf, inside-of, meets-stands, cover-place, alone-place, order-lists}
 use Rattle.floor.specs.Floor.Bridge.{meets-two, covered, once, plan-good, good-plan, shares-joined}
+use Rattle.floor.specs.Floor.Order.{counterclockwise-order}
 use Rattle.floor.specs.Floor.Draws.{Touch, Draws, drawable-draws, draws-drawable}
 use Rattle.floor.specs.Floor.Area.{cells-areas, areas-cells}
 
@@ -85,20 +88,20 @@ module _ (j : Job) (ok : Passes j) (p : Plan) (c : Complete j p) where
 
     -- a good plan passes the drawing test
     pub good-drawable : drawable j p ≡ true
-    good-drawable = draws-drawable j p c (record {
+    good-drawable = draws-drawable j ok p c (record {
       inside = gp .inside;
       apart = λ u v l hv x y a b. omega (arith, once j ok p gp x y u v (omega arith) hv a b);
       areas = cells-areas (length j + 4) p (c .count) (gp .inside) (covered j ok p gp) (once j ok p gp);
       shares = λ u v l hv. shares-joined j ok p c g u v (omega arith) hv;
       corners = λ u v l hv. no-corner u v (omega arith) hv;
-      order = gp .floor .order;
+      order = λ u r. counterclockwise-order p (starOf j u) (ok .good u r) (gp .floor .counterclockwise u r);
     })
 
   -- A PLAN THAT MEETS ITS CONTACTS AND PASSES IS GOOD
   module _ (some-room : 0 < length j) (ft : Fits (starsOf j) (placeOf p)) (dr : drawable j p ≡ true) where
     -- the facts that the drawing test tells of the plan
     d : Draws j p
-    d = drawable-draws j p c dr
+    d = drawable-draws j ok p c dr
 
     -- no cell lies in the rectangles of two vertices
     alone-cell : (x y u v : ℕ) → Vertex j u → Vertex j v → Cell (rectOf p u) x y → Cell (rectOf p v) x y → u ≡ v
@@ -164,8 +167,9 @@ module _ (j : Job) (ok : Passes j) (p : Plan) (c : Complete j p) where
       joined = λ k u v hu hv m. side-of (starsOf j) (placeOf p) (ft .thick) (ft .meets) k u v hu hv (some k u v hu hv m) m;
       meets = ft .meets;
       order = λ k i h.
-          order-lists j p (d .inside) k (getD j i []) (λ e m. entry-ok j ok i h e m .below) (λ a b x. d .order (4 + i) (omega arith, omega arith) a b
-          (rw (star-at j i) x));
+          order-lists j p (d .inside) k (straight (getD j i []))
+          (λ e m. entry-ok j ok i h e (restart-mem (restart-back (straight-restarts (getD j i []))) m) .below)
+          (rw (star-at j i) at (d .order (4 + i) (omega arith, omega arith)));
     }
 
     -- such a plan is good for the job, in the customer's words

@@ -1,15 +1,17 @@
 -- One star: what test 5 says of it, and what it is taken apart at an entry. Assumes nothing.
-use Prim.Native.Nat.{ℕ, zero, suc, _+_, _≤_}
-use mathlib.Core.Path.{_≡_, refl, sym, _∙_}
+use Prim.Native.Nat.{ℕ, suc, _+_, _-_, _%_, _≤_, _<_}
+use mathlib.Core.Path.{_≡_, refl, sym, ap, _∙_}
 use mathlib.Core.Bool.{Bool, true, false, cond, not}
-use mathlib.Core.List.{[], _∷_, _++_, List·Memᴰ, List·Memᴰ·head, List·Memᴰ·tail}
-use lib.Dec.{leb, eqb}
+use mathlib.Core.List.{[], _∷_, _++_, append-nil, List·Memᴰ, List·Memᴰ·head, List·Memᴰ·tail}
+use lib.Dec.{eqb}
 use native.Mathlib.Omega.{arith}
-use borrow.Author.Tests.{leb-true, eqb-true, eqb-false, le-leb, eq-eqb, ne-eqb, not-true}
-use Rattle.floor.specs.Lists.{all, any, chained, pairwise}
-use Rattle.floor.specs.Jobs.{Entry, Star, starOk, names, kindOf}
-use Rattle.floor.specs.Lists.Laws.{no-false, mem-any, and-left, and-right, and-parts, and-both, count, count-cons, mem-count, count-none, none-count}
-use Rattle.floor.specs.Lists.Laws.{any-count, all-mem, mem-all}
+use native.Mathlib.Decide.{decLt, ℕ-discrete}
+use borrow.Author.Tests.{eqb-true, eqb-false, eq-eqb, ne-eqb, not-true}
+use Rattle.floor.specs.Lists.{all, any, pairwise}
+use Rattle.floor.specs.Jobs.{Entry, Star, Link, linksTo, links, changes, Restarted, goesOn, starOk, names, kindOf}
+use Rattle.floor.specs.Lists.Laws.{no-false, mem-any, and-left, and-right, and-parts, and-both, or-right, implied, bit-most, count, count-nil, count-cons}
+use Rattle.floor.specs.Lists.Laws.{count-append, mem-count, count-none, none-count, all-mem, mem-all}
+use Rattle.floor.specs.Jobs.Round.{restart-back, restart-mem, restart-count, links-all, links-count}
 
 -- the entry of neighbour v with kind k
 abbrev pub entry : ℕ → ℕ → Entry
@@ -38,9 +40,11 @@ abbrev pub Sorted : Star → Type 0
 Sorted [] = Unit {0}
 Sorted (e ∷ s) = AtLeast (e .kind) s × Sorted s
 
--- TEST 5, and that no kind is over 3
+-- TEST 5, and that no kind is over 3: started elsewhere, its kinds never fall
 pub record GoodStar (s : Star) : Type 0 where
-  pub sorted : Sorted s
+  pub round : Star
+  pub restarts : Restarted s round
+  pub sorted : Sorted round
   pub small : AtMost 3 s
   pub has : (k : ℕ) → k ≤ 3 → 1 ≤ ofKind k s
   pub once : (e : Entry) → List·Memᴰ e s → named (e .to) s ≡ 1
@@ -69,52 +73,265 @@ mem-most k (d ∷ s) h = (h d (List·Memᴰ·head refl), mem-most k s (λ e m. h
 pub small-mem : (s : Star) → GoodStar s → (e : Entry) → List·Memᴰ e s → e .kind ≤ 3
 small-mem s g = most-mem 3 s (g .small)
 
--- kinds that the test finds never to fall from one entry to the next never fall along the star
-sorted-of : (s : Star) → chained (λ a b. leb (a .kind) (b .kind)) s ≡ true → Sorted s
-unfolding chained
-sorted-of [] h = tt
-sorted-of (x ∷ []) h = (tt, tt)
-sorted-of (x ∷ y ∷ s) h =
-    let below : AtLeast (y .kind) s × Sorted s = sorted-of (y ∷ s) (and-right (leb (x .kind) (y .kind)) (chained (λ a b. leb (a .kind) (b .kind)) (y ∷ s))
-    h) in
-    let l : x .kind ≤ y .kind = leb-true (x .kind) (y .kind) (and-left (leb (x .kind) (y .kind)) (chained (λ a b. leb (a .kind) (b .kind)) (y ∷ s)) h) in
-    ((l, least-down (y .kind) (x .kind) s l (below .0)), below)
+-- where some entry is of kind k, at least one is of that kind
+pub kind-mem : (k : ℕ) (s : Star) (e : Entry) → List·Memᴰ e s → e .kind ≡ k → 1 ≤ ofKind k s
+kind-mem k s e m q = mem-count (λ d. eqb (d .kind) k) s e m (eq-eqb (e .kind) k q)
 
--- kinds that never fall along the star pass the test from each entry to the next
-of-sorted : (s : Star) → Sorted s → chained (λ a b. leb (a .kind) (b .kind)) s ≡ true
-unfolding chained
-of-sorted [] h = refl
-of-sorted (x ∷ []) h = refl
-of-sorted (x ∷ y ∷ s) h = and-both (leb (x .kind) (y .kind)) (chained (λ a b. leb (a .kind) (b .kind)) (y ∷ s)) (le-leb (x .kind) (y .kind) (h .0 .0))
-    (of-sorted (y ∷ s) (h .1))
+-- none below the least, none above the most
+pub least-none : (m k : ℕ) (s : Star) → k < m → AtLeast m s → ofKind k s ≡ 0
+least-none m k [] h a = count-nil (λ (e : Entry). eqb (e .kind) k)
+least-none m k (e ∷ s) h a =
+    let q : eqb (e .kind) k ≡ false = ne-eqb (e .kind) k (λ z. omega (arith, a .0)) in
+    let c : ofKind k (e ∷ s) ≡ 0 + ofKind k s = rw q at (count-cons (λ (e : Entry). eqb (e .kind) k) e s) in
+    omega (arith, least-none m k s h (a .1))
 
--- where the test finds each of the four kinds in a star, at least one entry is of each kind
-has-of : (s : Star) → all (λ k. any (λ e. eqb (e .kind) k) s) (0 ∷ 1 ∷ 2 ∷ 3 ∷ []) ≡ true → (k : ℕ) → List·Memᴰ k (0 ∷ 1 ∷ 2 ∷ 3 ∷ []) → 1 ≤ ofKind k s
-has-of s h k m =
-    leb-true 1 (ofKind k s)
-    (sym (any-count (λ e. eqb (e .kind) k) s) ∙ all-mem (λ k. any (λ e. eqb (e .kind) k) s) (0 ∷ 1 ∷ 2 ∷ 3 ∷ []) h k m)
+-- where every kind is m or less, no entry is of a kind above m
+pub most-none : (m k : ℕ) (s : Star) → m < k → AtMost m s → ofKind k s ≡ 0
+most-none m k [] h a = count-nil (λ (e : Entry). eqb (e .kind) k)
+most-none m k (e ∷ s) h a =
+    let q : eqb (e .kind) k ≡ false = ne-eqb (e .kind) k (λ z. omega (arith, a .0)) in
+    let c : ofKind k (e ∷ s) ≡ 0 + ofKind k s = rw q at (count-cons (λ (e : Entry). eqb (e .kind) k) e s) in
+    omega (arith, most-none m k s h (a .1))
 
--- a kind of at most 3 is one of the four
-four : (k : ℕ) → k ≤ 3 → List·Memᴰ k (0 ∷ 1 ∷ 2 ∷ 3 ∷ [])
-four zero h = List·Memᴰ·head refl
-four (suc zero) h = List·Memᴰ·tail (List·Memᴰ·head refl)
-four (suc (suc zero)) h = List·Memᴰ·tail (List·Memᴰ·tail (List·Memᴰ·head refl))
-four (suc (suc (suc zero))) h = List·Memᴰ·tail (List·Memᴰ·tail (List·Memᴰ·tail (List·Memᴰ·head refl)))
-four (suc (suc (suc (suc k)))) h = absurd (omega arith)
+-- stars put together
+pub least-join : (m : ℕ) (P Q : Star) → AtLeast m P → AtLeast m Q → AtLeast m (P ++ Q)
+least-join m [] Q a b = b
+least-join m (d ∷ P) Q a b = (a .0, least-join m P Q (a .1) b)
 
--- each of the four kinds is at most 3
-four-le : (k : ℕ) → List·Memᴰ k (0 ∷ 1 ∷ 2 ∷ 3 ∷ []) → k ≤ 3
-four-le k (List·Memᴰ·head e) = omega arith
-four-le k (List·Memᴰ·tail (List·Memᴰ·head e)) = omega arith
-four-le k (List·Memᴰ·tail (List·Memᴰ·tail (List·Memᴰ·head e))) = omega arith
-four-le k (List·Memᴰ·tail (List·Memᴰ·tail (List·Memᴰ·tail (List·Memᴰ·head e)))) = omega arith
+-- two stars whose kinds never fall, none over k in the first and none below k in the second: put together they never fall either
+sorted-join : (k : ℕ) (P Q : Star) → Sorted P → AtMost k P → AtLeast k Q → Sorted Q → Sorted (P ++ Q)
+sorted-join k [] Q p m l q = q
+sorted-join k (d ∷ P) Q p m l q = (least-join (d .kind) P Q (p .0) (least-down k (d .kind) Q (m .0) l), sorted-join k P Q (p .1) (m .1) l q)
+
+-- the kind changes, or it does not, and where to
+pub changes-no : (l : Link) → l .this .kind ≡ l .next .kind → changes l ≡ false
+unfolding changes
+changes-no l e = rw (eq-eqb (l .this .kind) (l .next .kind) e)
+
+-- where an entry and the one that follows it are of two kinds, the kind changes
+pub changes-yes : (l : Link) → (l .this .kind ≡ l .next .kind → ⊥) → changes l ≡ true
+unfolding changes
+changes-yes l n = rw (ne-eqb (l .this .kind) (l .next .kind) n)
+
+-- where the kind does not change, the entry that follows is of the same kind
+pub no-changes : (l : Link) → changes l ≡ false → l .this .kind ≡ l .next .kind
+unfolding changes
+no-changes l e = go (eqb (l .this .kind) (l .next .kind)) refl e
+  where
+    go : (b : Bool) → eqb (l .this .kind) (l .next .kind) ≡ b → not b ≡ false → l .this .kind ≡ l .next .kind
+    go true q z = eqb-true (l .this .kind) (l .next .kind) q
+    go false q z = no-false (sym z)
+
+-- where the entry that follows has the next kind, 0 after 3, the kind goes on as it may
+goes-on : (l : Link) → l .next .kind ≡ (l .this .kind + 1) % 4 → goesOn l ≡ true
+unfolding goesOn
+goes-on l e = or-right (not (changes l)) _ (eq-eqb (l .next .kind) ((l .this .kind + 1) % 4) e)
+
+-- where the kind does not change, it goes on as it may
+goes-stays : (l : Link) → changes l ≡ false → goesOn l ≡ true
+unfolding goesOn
+goes-stays l e = rw e
+
+-- where the kind goes on as it may, and changes, the entry that follows has the next kind, 0 after 3
+goes-to : (l : Link) → goesOn l ≡ true → changes l ≡ true → l .next .kind ≡ (l .this .kind + 1) % 4
+unfolding goesOn
+goes-to l h e = eqb-true (l .next .kind) ((l .this .kind + 1) % 4) (implied (changes l) _ h e)
+
+-- how far the kinds rise along part of a star, from a on, with c changes: up to where they fall from 3 to 0, and behind that
+record Climbed (a c : ℕ) (s : Star) : Type 0 where
+  front : Star
+  rest : Star
+  whole : s ≡ front ++ rest
+  low : AtLeast a front
+  rises : Sorted front
+  high : AtMost (a + c) front
+  falls : Sorted rest
+  under : AtMost (a + c - 4) rest
+  none : a + c < 4 → rest ≡ []
+  has-front : (m : ℕ) → a ≤ m → m < a + c → m ≤ 3 → 1 ≤ ofKind m front
+  has-rest : (m : ℕ) → m + 4 < a + c → 1 ≤ ofKind m rest
+
+-- one entry more, of the same kind or the one before
+further : (d : Entry) (t : Star) (a c n : ℕ) → Climbed a n t → d .kind ≤ a → a ≤ suc (d .kind) → a + n ≡ d .kind + c → Climbed (d .kind) c (d ∷ t)
+further d t a c n k h l e = record {
+  front = d ∷ k .front;
+  rest = k .rest;
+  whole = ap (λ (r : Star). d ∷ r) (k .whole);
+  low = (omega arith, least-down a (d .kind) (k .front) h (k .low));
+  rises = (least-down a (d .kind) (k .front) h (k .low), k .rises);
+  high = (omega arith, rw e at (k .high));
+  falls = k .falls;
+  under = rw e at (k .under);
+  none = λ z. k .none (omega arith);
+  has-front = λ m x y z. front-of m x y z (ℕ-discrete m (d .kind));
+  has-rest = λ m z. k .has-rest m (omega arith);
+}
+  where
+    front-of : (m : ℕ) → d .kind ≤ m → m < d .kind + c → m ≤ 3 → Dec (m ≡ d .kind) → 1 ≤ ofKind m (d ∷ k .front)
+    front-of m x y z (yes q) = kind-mem m (d ∷ k .front) d (List·Memᴰ·head refl) (sym q)
+    front-of m x y z (no q) =
+        omega (arith, k .has-front m (omega arith) (omega arith) z, count-cons (λ (e : Entry). eqb (e .kind) m) d (k .front))
+
+-- one entry more, from which the kind falls from 3 to 0
+beyond : (d : Entry) (t : Star) (a n : ℕ) → d .kind ≡ 3 → a ≡ 0 → n ≤ 3 → Climbed a n t → Climbed (d .kind) (suc n) (d ∷ t)
+beyond d t a n e z h k = record {
+  front = d ∷ [];
+  rest = t;
+  whole = refl;
+  low = (omega arith, tt);
+  rises = (tt, tt);
+  high = (omega arith, tt);
+  falls = rw same (k .rises);
+  under = rw (same, e) (most-up (a + n) (3 + suc n - 4) (k .front) (omega arith) (k .high));
+  none = λ l. absurd (omega arith);
+  has-front = λ m x y l. kind-mem m (d ∷ []) d (List·Memᴰ·head refl) (omega arith);
+  has-rest = λ m l. rw same (k .has-front m (omega arith) (omega arith) (omega arith));
+}
+  where
+    same : t ≡ k .front
+    same = k .whole ∙ ap (λ (r : Star). k .front ++ r) (k .none (omega arith)) ∙ append-nil (k .front)
+
+-- a star whose kinds go on, from its first entry on
+climb : (s : Star) (d back : Entry) (c : ℕ) → c ≤ 4 → AtMost 3 (d ∷ s) → all goesOn (linksTo back (d ∷ s)) ≡ true → count changes (linksTo back (d ∷ s)) ≡ c
+    → Climbed (d .kind) c (d ∷ s)
+unfolding linksTo all
+climb [] d back c h small ok e = record {
+  front = d ∷ [];
+  rest = [];
+  whole = refl;
+  low = (omega arith, tt);
+  rises = (tt, tt);
+  high = (omega arith, tt);
+  falls = tt;
+  under = tt;
+  none = λ z. refl;
+  has-front = λ m x y z. kind-mem m (d ∷ []) d (List·Memᴰ·head refl) (omega (arith, few));
+  has-rest = λ m z. absurd (omega (arith, few, small .0));
+}
+  where
+    few : c ≤ 1
+    few = omega (
+      arith,
+      e,
+      count-cons changes (record { this = d; next = back }) [],
+      bit-most (changes (record { this = d; next = back })),
+      count-nil changes,
+    )
+climb (e ∷ s) d back c h small ok q =
+    let (now, later) = and-parts _ _ ok in
+    go (changes link) refl now (climb s e back (count changes (linksTo back (e ∷ s)))) later
+  where
+    link : Link
+    link = record { this = d; next = e }
+
+    n : ℕ
+    n = count changes (linksTo back (e ∷ s))
+
+    up : goesOn link ≡ true → changes link ≡ true → c ≡ suc n → Climbed (e .kind) n (e ∷ s) → Dec (d .kind < 3) → Climbed (d .kind) c (d ∷ e ∷ s)
+    up now x z k (yes l) =
+        let g : e .kind ≡ (d .kind + 1) % 4 = goes-to link now x in
+        further d (e ∷ s) (e .kind) c n k (omega arith) (omega arith) (omega arith)
+    up now x z k (no l) =
+        let g : e .kind ≡ (d .kind + 1) % 4 = goes-to link now x in
+        rw z (beyond d (e ∷ s) (e .kind) n (omega (arith, small .0)) (omega (arith, small .0)) (omega arith) k)
+
+    go : (b : Bool) → changes link ≡ b → goesOn link ≡ true
+        → (n ≤ 4 → AtMost 3 (e ∷ s) → all goesOn (linksTo back (e ∷ s)) ≡ true → n ≡ n → Climbed (e .kind) n (e ∷ s))
+        → all goesOn (linksTo back (e ∷ s)) ≡ true → Climbed (d .kind) c (d ∷ e ∷ s)
+    go false x now below later =
+        let z : count changes (link ∷ linksTo back (e ∷ s)) ≡ 0 + n = rw x at (count-cons changes link (linksTo back (e ∷ s))) in
+        let y : d .kind ≡ e .kind = no-changes link x in
+        further d (e ∷ s) (e .kind) c n (below (omega arith) (small .1) later refl) (omega arith) (omega arith) (omega arith)
+    go true x now below later =
+        let z : count changes (link ∷ linksTo back (e ∷ s)) ≡ 1 + n = rw x at (count-cons changes link (linksTo back (e ∷ s))) in
+        up now x (omega arith) (below (omega arith) (small .1) later refl) (decLt (d .kind) 3)
+
+-- kinds that never fall and of which none is missing go on, with as many changes as are left
+climbs : (s : Star) (d back : Entry) → Sorted (d ∷ s) → AtMost 3 (d ∷ s) → ((m : ℕ) → d .kind ≤ m → m ≤ 3 → 1 ≤ ofKind m (d ∷ s)) → back .kind ≡ 0
+    → (all goesOn (linksTo back (d ∷ s)) ≡ true) × (count changes (linksTo back (d ∷ s)) + d .kind ≡ 4)
+unfolding linksTo all
+climbs [] d back o small has z =
+    let three : d .kind ≡ 3 = go (decLt (d .kind) 3) in
+    let l : Link = record { this = d; next = back } in
+    let c : count changes (l ∷ []) ≡ 1 + count changes [] = rw (changes-yes l (λ q. omega arith)) at (count-cons changes l []) in
+    (and-both _ _ (goes-on l (omega arith)) refl, omega (arith, count-nil changes))
+  where
+    go : Dec (d .kind < 3) → d .kind ≡ 3
+    go (yes l) = absurd (omega (arith, has 3 (omega arith) (omega arith), most-none (d .kind) 3 (d ∷ []) l (omega arith, tt)))
+    go (no l) = omega (arith, small .0)
+climbs (e ∷ s) d back o small has z = go (ℕ-discrete (d .kind) (e .kind)) (climbs s e back (o .1) (small .1))
+  where
+    link : Link
+    link = record { this = d; next = e }
+
+    later : (m : ℕ) → (d .kind ≡ m → ⊥) → d .kind ≤ m → m ≤ 3 → 1 ≤ ofKind m (e ∷ s)
+    later m ne l h =
+        let c : ofKind m (d ∷ e ∷ s) ≡ 0 + ofKind m (e ∷ s) = rw (ne-eqb (d .kind) m ne) at (count-cons (λ (x : Entry). eqb (x .kind) m) d (e ∷ s)) in
+        omega (arith, has m l h)
+
+    go : Dec (d .kind ≡ e .kind) → (((m : ℕ) → e .kind ≤ m → m ≤ 3 → 1 ≤ ofKind m (e ∷ s)) → back .kind ≡ 0
+        → (all goesOn (linksTo back (e ∷ s)) ≡ true) × (count changes (linksTo back (e ∷ s)) + e .kind ≡ 4))
+        → (all goesOn (link ∷ linksTo back (e ∷ s)) ≡ true) × (count changes (link ∷ linksTo back (e ∷ s)) + d .kind ≡ 4)
+    go (yes q) below =
+        let (a, b) = below (λ m l h. same m l h (ℕ-discrete (e .kind) m)) z in
+        let x : changes link ≡ false = changes-no link q in
+        let c : count changes (link ∷ linksTo back (e ∷ s)) ≡ 0 + count changes (linksTo back (e ∷ s)) = rw x at (count-cons changes link
+        (linksTo back (e ∷ s))) in
+        (and-both _ _ (goes-stays link x) a, omega arith)
+      where
+        same : (m : ℕ) → e .kind ≤ m → m ≤ 3 → Dec (e .kind ≡ m) → 1 ≤ ofKind m (e ∷ s)
+        same m l h (yes w) = kind-mem m (e ∷ s) e (List·Memᴰ·head refl) w
+        same m l h (no w) = later m (λ r. w (sym q ∙ r)) (omega arith) h
+    go (no q) below =
+        let one : e .kind ≡ suc (d .kind) = next (decLt (suc (d .kind)) (e .kind)) in
+        let (a, b) = below (λ m l h. later m (λ r. omega arith) (omega arith) h) z in
+        let c : count changes (link ∷ linksTo back (e ∷ s)) ≡ 1 + count changes (linksTo back (e ∷ s)) = rw (changes-yes link q) at (count-cons changes link
+        (linksTo back (e ∷ s))) in
+        (and-both _ _ (goes-on link (omega (arith, small .1 .0))) a, omega arith)
+      where
+        next : Dec (suc (d .kind) < e .kind) → e .kind ≡ suc (d .kind)
+        next (yes l) =
+            absurd
+            (omega (
+              arith,
+              small .1 .0,
+              later (suc (d .kind)) (λ r. omega arith) (omega arith) (omega (arith, small .1 .0)),
+              least-none (e .kind) (suc (d .kind)) (e ∷ s) l (omega arith, o .1 .0),
+            ))
+        next (no l) = omega (arith, o .0 .0)
+
+-- a sorted star with every kind begins above, and ends at the right
+pub first-above : (d : Entry) (s : Star) → Sorted (d ∷ s) → 1 ≤ ofKind 0 (d ∷ s) → d .kind ≡ 0
+first-above d s o h = go (decLt 0 (d .kind))
+  where
+    go : Dec (0 < d .kind) → d .kind ≡ 0
+    go (yes l) = absurd (omega (arith, least-none (d .kind) 0 (d ∷ s) l (omega arith, o .0)))
+    go (no l) = omega arith
+
+-- the last of a star that begins with d
+abbrev pub lastOf : Entry → Star → Entry
+lastOf d [] = d
+lastOf d (e ∷ s) = lastOf e s
+
+-- where kinds never fall, none is over the kind of the last entry
+sorted-top : (d : Entry) (s : Star) → Sorted (d ∷ s) → AtMost (lastOf d s .kind) (d ∷ s)
+sorted-top d [] o = (omega arith, tt)
+sorted-top d (e ∷ s) o = let k : AtMost (lastOf e s .kind) (e ∷ s) = sorted-top e s (o .1) in (omega (arith, k .0, o .0 .0), k)
+
+-- where kinds never fall and some entry stands at the right, the last entry's kind is 3 or more
+pub last-right : (d : Entry) (s : Star) → Sorted (d ∷ s) → 1 ≤ ofKind 3 (d ∷ s) → 3 ≤ lastOf d s .kind
+last-right d s o h = go (decLt (lastOf d s .kind) 3)
+  where
+    go : Dec (lastOf d s .kind < 3) → 3 ≤ lastOf d s .kind
+    go (yes l) = absurd (omega (arith, most-none (lastOf d s .kind) 3 (d ∷ s) l (sorted-top d s o)))
+    go (no l) = omega arith
 
 -- no neighbour twice: each is named once
-abbrev different : Entry → Entry → Bool
+abbrev pub different : Entry → Entry → Bool
 different d e = not (eqb (d .to) (e .to))
 
 -- where no two entries name one neighbour, each neighbour is named once
-once-of : (s : Star) → pairwise different s ≡ true → (e : Entry) → List·Memᴰ e s → named (e .to) s ≡ 1
+pub once-of : (s : Star) → pairwise different s ≡ true → (e : Entry) → List·Memᴰ e s → named (e .to) s ≡ 1
 unfolding pairwise
 once-of (d ∷ s) h e (List·Memᴰ·head q) =
     let c : named (d .to) (d ∷ s) ≡ 1 + named (d .to) s = rw (eq-eqb (d .to) (d .to) refl) at (count-cons (λ (x : Entry). eqb (x .to) (d .to)) d s) in
@@ -128,7 +345,7 @@ once-of (d ∷ s) h e (List·Memᴰ·tail m) =
     omega (arith, once-of s (and-right (all (different d) s) _ h) e m)
 
 -- where each neighbour is named once, no two entries name one neighbour
-of-once : (s : Star) → ((e : Entry) → List·Memᴰ e s → named (e .to) s ≡ 1) → pairwise different s ≡ true
+pub of-once : (s : Star) → ((e : Entry) → List·Memᴰ e s → named (e .to) s ≡ 1) → pairwise different s ≡ true
 unfolding pairwise
 of-once [] h = refl
 of-once (d ∷ s) h = and-both _ _ (mem-all (different d) s apart) (of-once s rest)
@@ -151,23 +368,52 @@ of-once (d ∷ s) h = and-both _ _ (mem-all (different d) s apart) (of-once s re
               (eq-eqb (e .to) (e .to) refl),
         )
 
--- a star that passes test 5 and has no kind over 3 has sorted kinds, all four of them, and each neighbour once
+-- TEST 5 SAYS that the star, started elsewhere, has kinds that never fall, and none missing
 pub good-of : (s : Star) → starOk s ≡ true → AtMost 3 s → GoodStar s
-unfolding starOk
+unfolding starOk links
 good-of s h small =
     let (ab, c) = and-parts _ _ h in
     let (a, b) = and-parts _ _ ab in
-    record { sorted = sorted-of s a; small = small; has = λ k l. has-of s b k (four k l); once = once-of s c }
+    go s small a (eqb-true (count changes (links s)) 4 b) (once-of s c)
+  where
+    go : (s : Star) → AtMost 3 s → all goesOn (links s) ≡ true → count changes (links s) ≡ 4 → ((e : Entry) → List·Memᴰ e s → named (e .to) s ≡ 1) → GoodStar s
+    go [] small a b once = absurd (omega (arith, count-nil changes))
+    go (d ∷ s) small a b once = made (climb s d d 4 (omega arith) small a b)
+      where
+        made : Climbed (d .kind) 4 (d ∷ s) → GoodStar (d ∷ s)
+        made k = record {
+          round = k .rest ++ k .front;
+          restarts = record { front = k .front; rest = k .rest; is-one = k .whole; is-other = refl };
+          sorted = sorted-join (d .kind) (k .rest) (k .front) (k .falls) (most-up (d .kind + 4 - 4) (d .kind) (k .rest) (omega arith) (k .under)) (k .low)
+              (k .rises);
+          small = small;
+          has = λ m h. rw (k .whole) (has-of m h (decLt m (d .kind)));
+          once = once;
+        }
+          where
+            has-of : (m : ℕ) → m ≤ 3 → Dec (m < d .kind) → 1 ≤ ofKind m (k .front ++ k .rest)
+            has-of m h (yes l) = omega (arith, k .has-rest m (omega arith), count-append (λ (e : Entry). eqb (e .kind) m) (k .front) (k .rest))
+            has-of m h (no l) =
+                omega (arith, k .has-front m (omega arith) (omega arith) h, count-append (λ (e : Entry). eqb (e .kind) m) (k .front) (k .rest))
 
--- a star with sorted kinds, all four of them, and each neighbour once passes test 5
+-- what a good star has, it has wherever it starts
+pub round-has : (s : Star) (g : GoodStar s) (k : ℕ) → k ≤ 3 → 1 ≤ ofKind k (g .round)
+round-has s g k h = omega (arith, g .has k h, restart-count (g .restarts) (λ (e : Entry). eqb (e .kind) k))
+
+-- AND THE WAY BACK
 pub of-good : (s : Star) → GoodStar s → starOk s ≡ true
-unfolding starOk
+unfolding starOk links
 of-good s g =
-    and-both _ _
-    (and-both _ _ (of-sorted s (g .sorted))
-    (mem-all (λ k. any (λ e. eqb (e .kind) k) s) (0 ∷ 1 ∷ 2 ∷ 3 ∷ []) (λ k m. any-count (λ e. eqb (e .kind) k) s ∙ le-leb 1 (ofKind k s)
-    (g .has k (four-le k m)))))
+    let (a, b) = go (g .round) (g .sorted) (round-has s g) (mem-most 3 (g .round) (λ e m. small-mem s g e (restart-mem (restart-back (g .restarts)) m))) in
+    and-both _ _ (and-both _ _ (links-all (g .restarts) goesOn ∙ a) (eq-eqb (count changes (links s)) 4 (links-count (g .restarts) changes ∙ b)))
     (of-once s (g .once))
+  where
+    go : (t : Star) → Sorted t → ((k : ℕ) → k ≤ 3 → 1 ≤ ofKind k t) → AtMost 3 t → (all goesOn (links t) ≡ true) × (count changes (links t) ≡ 4)
+    go [] o has small = absurd (omega (arith, has 0 (omega arith), count-nil (λ (e : Entry). eqb (e .kind) 0)))
+    go (d ∷ t) o has small =
+        let z : d .kind ≡ 0 = first-above d t o (has 0 (omega arith)) in
+        let (a, b) = climbs t d d o small (λ m l h. has m h) z in
+        (a, omega arith)
 
 -- A STAR TAKEN APART at the entry of v
 pub kind-self : (v k : ℕ) (s : Star) → ofKind k (entry v k ∷ s) ≡ 1 + ofKind k s
@@ -183,10 +429,6 @@ kind-other v k m s ne =
 -- a neighbour that some entry names is named at least once
 named-mem : (v : ℕ) (s : Star) (e : Entry) → List·Memᴰ e s → e .to ≡ v → 1 ≤ named v s
 named-mem v s e m q = mem-count (λ d. eqb (d .to) v) s e m (eq-eqb (e .to) v q)
-
--- where some entry is of kind k, at least one is of that kind
-pub kind-mem : (k : ℕ) (s : Star) (e : Entry) → List·Memᴰ e s → e .kind ≡ k → 1 ≤ ofKind k s
-kind-mem k s e m q = mem-count (λ d. eqb (d .kind) k) s e m (eq-eqb (e .kind) k q)
 
 -- kindOf finds it
 pub kindOf-mid : (P : Star) (v k : ℕ) (Q : Star) → named v P ≡ 0 → kindOf (P ++ entry v k ∷ Q) v ≡ k

@@ -3,7 +3,8 @@ use Prim.Native.Nat.{ℕ, zero, suc, _+_, _≤_, _<_}
 use mathlib.Core.Path.{_≡_, refl, sym, ap, _∙_}
 use mathlib.Core.Logic.{_⊎_, inl, inr}
 use mathlib.Core.Bool.{Bool, true, false, cond, not, _&&_, _||_}
-use mathlib.Core.List.{List, [], _∷_, _++_, map, List·Memᴰ, List·Memᴰ·head, List·Memᴰ·tail, List·Memᴰ·not-nil}
+use mathlib.Core.List.{List, [], _∷_, _++_, map, List·Memᴰ, List·Memᴰ·head, List·Memᴰ·tail, List·Memᴰ·not-nil, List·Memᴰ·append-cases}
+use mathlib.Core.List.{Memᴰ·append-left, Memᴰ·append-right, head-eq-of-cons-eq, tail-eq-of-cons-eq}
 use lib.ListN.{length, getD}
 use lib.Dec.{leb}
 use native.Mathlib.Omega.{arith}
@@ -77,6 +78,11 @@ same-test false false x y = refl
 abbrev pub bit : Bool → ℕ
 bit true = 1
 bit false = 0
+
+-- a test as a number is at most 1
+pub bit-most : (b : Bool) → bit b ≤ 1
+bit-most true = omega arith
+bit-most false = omega arith
 
 module _ {A : Type 0} where
   -- how many pass
@@ -170,6 +176,45 @@ module _ {A : Type 0} where
   unfolding all
   mem-all p [] h = refl
   mem-all p (y ∷ xs) h = and-both (p y) (all p xs) (h y (List·Memᴰ·head refl)) (mem-all p xs (λ x m. h x (List·Memᴰ·tail m)))
+
+  -- what is asked of all, of some or of how many does not hang on which of two lists stands first
+  all-behind : (p : A → Bool) (xs ys : List A) → all p (xs ++ ys) ≡ true → all p (ys ++ xs) ≡ true
+  all-behind p xs ys h = mem-all p (ys ++ xs) (λ x m. go x (List·Memᴰ·append-cases ys m))
+    where
+      go : (x : A) → List·Memᴰ x ys ⊎ List·Memᴰ x xs → p x ≡ true
+      go x (inl m) = all-mem p (xs ++ ys) h x (Memᴰ·append-right xs m)
+      go x (inr m) = all-mem p (xs ++ ys) h x (Memᴰ·append-left ys m)
+
+  -- whether all pass does not hang on which of two lists stands first
+  pub all-exchange : (p : A → Bool) (xs ys : List A) → all p (xs ++ ys) ≡ all p (ys ++ xs)
+  all-exchange p xs ys = same-test (all p (xs ++ ys)) (all p (ys ++ xs)) (all-behind p xs ys) (all-behind p ys xs)
+
+  -- how many pass does not hang on which of two lists stands first
+  pub count-exchange : (p : A → Bool) (xs ys : List A) → count p (xs ++ ys) ≡ count p (ys ++ xs)
+  count-exchange p xs ys = omega (arith, count-append p xs ys, count-append p ys xs)
+
+  -- whether some member passes does not hang on which of two lists stands first
+  pub any-exchange : (p : A → Bool) (xs ys : List A) → any p (xs ++ ys) ≡ any p (ys ++ xs)
+  any-exchange p xs ys = any-count p (xs ++ ys) ∙ ap (leb 1) (count-exchange p xs ys) ∙ sym (any-count p (ys ++ xs))
+
+  -- two lists put together in two ways: one of the cuts lies behind the other
+  pub record Cut (xs ys us vs : List A) : Type 0 where
+    pub between : List A
+    pub longer : us ≡ xs ++ between
+    pub shorter : ys ≡ between ++ vs
+
+  -- of two ways to cut one list in two, one cut lies at or behind the other
+  pub cuts : (xs ys us vs : List A) → xs ++ ys ≡ us ++ vs → Cut xs ys us vs ⊎ Cut us vs xs ys
+  cuts [] ys us vs e = inl (record { between = us; longer = refl; shorter = e })
+  cuts (x ∷ xs) ys [] vs e = inr (record { between = x ∷ xs; longer = refl; shorter = sym e })
+  cuts (x ∷ xs) ys (u ∷ us) vs e = go (cuts xs ys us vs (tail-eq-of-cons-eq e))
+    where
+      same : x ≡ u
+      same = head-eq-of-cons-eq e
+
+      go : Cut xs ys us vs ⊎ Cut us vs xs ys → Cut (x ∷ xs) ys (u ∷ us) vs ⊎ Cut (u ∷ us) vs (x ∷ xs) ys
+      go (inl c) = inl (record { between = c .between; longer = rw (same, c .longer); shorter = c .shorter })
+      go (inr c) = inr (record { between = c .between; longer = rw (same, c .longer); shorter = c .shorter })
 
   -- members by place
   pub mem-getD : (xs : List A) (i : ℕ) (d : A) → i < length xs → List·Memᴰ (getD xs i d) xs

@@ -7,20 +7,23 @@ use mathlib.Core.Bool.{Bool, true, false, _&&_, _||_}
 use mathlib.Core.List.{_∷_, _++_, List·Memᴰ}
 use lib.ListN.{length}
 use lib.Dec.{leb, eqb}
-use native.Mathlib.Omega.{arith}
-use borrow.Author.Tests.{eqb-true, leb-true, eq-eqb, ne-eqb}
-use Rattle.floor.specs.Lists.{isLast}
+use borrow.Author.Tests.{eqb-true, leb-true}
 use Rattle.floor.specs.Lists.Laws.{no-false, or-cases, and-parts, Apart, apart-at}
 use Rattle.floor.specs.Jobs.{Star, Job, Room, opposite, isRoom, starOf, names, kindOf, listOf, Reading, fails, reads}
-use Rattle.floor.specs.Jobs.Stars.{entry, ofKind, GoodStar, kindOf-mem}
+use Rattle.floor.specs.Jobs.Stars.{entry, ofKind, kindOf-mem}
+use Rattle.floor.specs.Jobs.Round.{restart-mem}
+use Rattle.floor.specs.Jobs.Straight.{straight, straight-restarts}
 use Rattle.floor.specs.Jobs.Facts.{Passes, is-room, passing-reads}
 use Rattle.floor.specs.Plans.{Plan, held, drawn, drawRead}
 use Rattle.floor.specs.Plans.Held.{not-held}
 use Rattle.floor.specs.Floor.{GoodPlan}
+use Rattle.floor.specs.Floor.Sides.{Side}
+use Rattle.floor.specs.Floor.Read.{num, piece}
+use Rattle.floor.specs.Floor.Placed.{placeOf}
 use Rattle.floor.specs.Turns.{turned, turningAt, turningFrom, inContact, turning, turn, Kept, Turnable, turnedBy}
-use Rattle.floor.specs.Turns.Swing.{AtEnd, swing, length-listOf, last-mid, named-back}
+use Rattle.floor.specs.Turns.Swing.{swing, length-listOf, is-last}
 use Rattle.floor.specs.Turns.Turned.{Turn, turn-again, turn-keeps}
-use Rattle.floor.specs.Turns.Ends.{each-kind, opposite-small, at-ends}
+use Rattle.floor.specs.Turns.Ends.{each-kind, opposite-small, at-ends, Beyond, go-past}
 
 -- kinds 1 and 2 are asked for from the other side
 from-other : (k : ℕ) → k ≤ 3 → (eqb k 0 || eqb k 3) ≡ false → (opposite k ≡ 0) ⊎ (opposite k ≡ 3)
@@ -81,52 +84,56 @@ asked j u v i q ok h = go (turning j u v) refl h
     go (fails k) e h = not-held h
     go (reads l) e h = let (t, f) = turnable j u v ok l e in (t, ap drawn f ∙ h)
 
+-- how a contact turns, and that each of the two rooms goes past the other at one end
+pub record Past (j : Job) (p : Plan) (a b m : ℕ) : Type 0 where
+  pub turn : Turn j a b m
+  pub beyond : (k : Side) → num k ≡ m → Beyond (placeOf p) (turn .last) k (piece a) (piece b)
+
 -- A CONTACT OF A GOOD PLAN with at least two on both lists turns so
 turn-of : (j : Job) (ok : Passes j) (p : Plan) (gp : GoodPlan j p) (a b m : ℕ) → Room j a → Room j b → List·Memᴰ (entry b m) (starOf j a)
-    → 2 ≤ ofKind m (starOf j a) → 2 ≤ ofKind (opposite m) (starOf j b) → Turn j a b m
+    → 2 ≤ ofKind m (starOf j a) → 2 ≤ ofKind (opposite m) (starOf j b) → Past j p a b m
 turn-of j ok p gp a b m ra rb i ha hb = go (A .front) (A .rest) (B .front) (B .rest) (A .whole) (B .whole)
   where
     small : m ≤ 3
     small = ok .entries a ra (entry b m) i .small
 
-    A : Apart (entry b m) (starOf j a)
-    A = apart-at (entry b m) (starOf j a) i
+    A : Apart (entry b m) (straight (starOf j a))
+    A = apart-at (entry b m) (straight (starOf j a)) (restart-mem (straight-restarts (starOf j a)) i)
 
-    B : Apart (entry a (opposite m)) (starOf j b)
-    B = apart-at (entry a (opposite m)) (starOf j b) (ok .opposed a ra (entry b m) i (rb .0))
+    B : Apart (entry a (opposite m)) (straight (starOf j b))
+    B = apart-at (entry a (opposite m)) (straight (starOf j b)) (restart-mem (straight-restarts (starOf j b)) (ok .opposed a ra (entry b m) i (rb .0)))
 
-    last-is : (l : Bool) (P Q : Star) → GoodStar (P ++ entry b m ∷ Q) → AtEnd l P Q m → isLast b (listOf (P ++ entry b m ∷ Q) m) ≡ l
-    last-is true P Q g e = last-mid P b m Q (named-back P Q b m g) ∙ eq-eqb (ofKind m Q) 0 (e .0)
-    last-is false P Q g e = last-mid P b m Q (named-back P Q b m g) ∙ ne-eqb (ofKind m Q) 0 (λ z. omega (arith, e .1))
-
-    go : (P Q P′ Q′ : Star) → starOf j a ≡ P ++ entry b m ∷ Q → starOf j b ≡ P′ ++ entry a (opposite m) ∷ Q′ → Turn j a b m
+    go : (P Q P′ Q′ : Star) → straight (starOf j a) ≡ P ++ entry b m ∷ Q → straight (starOf j b) ≡ P′ ++ entry a (opposite m) ∷ Q′ → Past j p a b m
     go P Q P′ Q′ s s′ =
         let (l, x, y) = at-ends j ok p gp a b m ra rb small P Q P′ Q′ s s′ ha hb in
         record {
-          last = l;
-          room-a = ra;
-          room-b = rb;
-          differ = λ e. ok .entries a ra (entry b m) i .other (sym e);
-          small = small;
-          swing-a = rw s (swing l P Q b m small (rw s at (ok .good a ra)) x);
-          swing-b = rw s′ (swing l P′ Q′ a (opposite m) (opposite-small m small) (rw s′ at (ok .good b rb)) y);
-          is-last = rw s (last-is l P Q (rw s at (ok .good a ra)) x);
+          turn = record {
+            last = l;
+            room-a = ra;
+            room-b = rb;
+            differ = λ e. ok .entries a ra (entry b m) i .other (sym e);
+            small = small;
+            swing-a = swing l (starOf j a) P Q b m small (ok .good a ra) s x;
+            swing-b = swing l (starOf j b) P′ Q′ a (opposite m) (opposite-small m small) (ok .good b rb) s′ y;
+            is-last = is-last l (starOf j a) P Q b m small (ok .good a ra) s x;
+          };
+          beyond = go-past j ok p gp a b m ra rb small P Q P′ Q′ s s′ l x y;
         }
 
 module _ (j : Job) (ok : Passes j) (p : Plan) (gp : GoodPlan j p) where
-  -- in a good plan the two entries of a contact that can be turned swing at the same end of their lists
-  turn-at : {u v : ℕ} (t : Turnable j u v) → Turn j (t .a) (t .b) (t .m)
-  turn-at t =
+  -- of a contact of a good plan that can be turned: how it turns, and that each of the two rooms goes past the other at one end
+  pub past-at : {u v : ℕ} (t : Turnable j u v) → Past j p (t .a) (t .b) (t .m)
+  past-at t =
       turn-of j ok p gp (t .a) (t .b) (t .m) (t .room-a) (t .room-b) (t .contact) (rw (length-listOf (starOf j (t .a)) (t .m)) at (t .many-a))
       (rw (length-listOf (starOf j (t .b)) (opposite (t .m))) at (t .many-b))
 
   -- THE TURNED LABELLING, drawn or not, keeps tests 4 to 6, rooms, pairs, and who is joined
   pub turned-keeps : {u v : ℕ} (t : Turnable j u v) → Kept j (turnedBy t)
-  turned-keeps t = turn-keeps j (t .a) (t .b) (t .m) (turn-at t) ok
+  turned-keeps t = turn-keeps j (t .a) (t .b) (t .m) (past-at t .turn) ok
 
   -- TURNED AGAIN AT ONCE, whichever of the two numbers is named first: the job, drawn again
   pub turned-restores : {u v : ℕ} (t : Turnable j u v) → (turn (turnedBy t) u v ≡ drawn j) × (turn (turnedBy t) v u ≡ drawn j)
-  turned-restores {u} {v} t = go (t .a) (t .b) (t .who) (turn-again j (t .a) (t .b) (t .m) (turn-at t))
+  turned-restores {u} {v} t = go (t .a) (t .b) (t .who) (turn-again j (t .a) (t .b) (t .m) (past-at t .turn))
     where
       go : (a b : ℕ) → ((a ≡ u) × (b ≡ v)) ⊎ ((a ≡ v) × (b ≡ u)) → (turn (turnedBy t) a b ≡ drawn j) × (turn (turnedBy t) b a ≡ drawn j)
           → (turn (turnedBy t) u v ≡ drawn j) × (turn (turnedBy t) v u ≡ drawn j)

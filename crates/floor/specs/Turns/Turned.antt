@@ -2,30 +2,25 @@
 use Prim.Native.Nat.{ℕ, _-_, _≤_, _<_}
 use mathlib.Core.Path.{_≡_, refl, sym, ap, _∙_}
 use mathlib.Core.Logic.{_⊎_, inl, inr, _≢_}
-use mathlib.Core.Bool.{Bool, true, false, not, _||_}
-use mathlib.Core.List.{[], List·Memᴰ}
-use lib.ListN.{length, getD, set, length-set}
+use mathlib.Core.Bool.{Bool, true, false, not, _||_, cond}
+use mathlib.Core.List.{[], List·Memᴰ, List, _∷_, map}
+use lib.ListN.{length, getD, set, length-set, List·getD-map}
 use lib.Seq.{getD-set-same, getD-set-other, set-getD, set-set, set-comm, map-set-same}
 use lib.Dec.{leb, eqb}
 use native.Mathlib.Omega.{arith}
 use native.Mathlib.Decide.{decLt, ℕ-discrete}
-use borrow.Author.Tests.{le-leb}
-use Rattle.floor.specs.Lists.{sum, isLast}
+use borrow.Author.Tests.{le-leb, eqb-true}
+use Rattle.floor.specs.Lists.{sum}
 use Rattle.floor.specs.Lists.Laws.{and-both, any-count}
 use Rattle.floor.specs.Jobs.{Entry, Star, Job, Room, opposite, isRoom, starOf, names, kindOf, listOf, pairsIn, Reading, reads}
 use Rattle.floor.specs.Jobs.Stars.{entry, named, GoodStar, mem-names}
 use Rattle.floor.specs.Jobs.Facts.{passes-labelling, EntryOk, Passes, room-is, star-room, star-frame, passing-true}
 use Rattle.floor.specs.Plans.{drawn, drawRead, joined}
-use Rattle.floor.specs.Turns.{turnedKind, rekinded, turned, turningAt, turningFrom, inContact, turning, turn, Kept}
-use Rattle.floor.specs.Turns.Swing.{Swing, length-listOf}
+use Rattle.floor.specs.Turns.{turnedKind, turned, turningAt, turningFrom, inContact, turning, turn, Kept, withKind, isLast}
+use Rattle.floor.specs.Turns.Swing.{Swing, length-listOf, turned-small}
 use Rattle.floor.specs.Turns.Ends.{each-kind, opposite-opposite, opposite-small}
 
 -- TURNED KINDS
-turned-small : (k : ℕ) (l : Bool) → turnedKind k l ≤ 3
-unfolding turnedKind
-turned-small k l = omega arith
-
--- the opposite of a turned kind is the opposite kind turned at the same end
 turned-opposite : (l : Bool) (k : ℕ) → k ≤ 3 → opposite (turnedKind k l) ≡ turnedKind (opposite k) l
 unfolding turnedKind opposite
 turned-opposite true = each-kind (λ k. opposite (turnedKind k true) ≡ turnedKind (opposite k) true) refl refl refl refl
@@ -217,6 +212,46 @@ module _ (j : Job) (a b : ℕ) (ra : Room j a) (rb : Room j b) (differ : a ≡ b
   put-back′ : set (set put (b - 4) (starOf j b)) (a - 4) (starOf j a) ≡ j
   put-back′ = set-comm put (b - 4) (a - 4) (starOf j b) (starOf j a) apart-ab ∙ put-back
 
+-- NO ENTRY MOVES: each star names whom it named, in the same places
+same-place : (v k : ℕ) (s : Star) → map (λ (e : Entry). e .to) (withKind s v k) ≡ map (λ (e : Entry). e .to) s
+unfolding withKind
+same-place v k [] = refl
+same-place v k (d ∷ s) = go (eqb (d .to) v) refl (same-place v k s)
+  where
+    go : (b : Bool) → eqb (d .to) v ≡ b
+        → map (λ (e : Entry). e .to) (map (λ e. cond (eqb (e .to) v) (record { to = v; kind = k }) e) s) ≡ map (λ (e : Entry). e .to) s
+        → cond b (record { to = v; kind = k }) d .to ∷ map (λ (e : Entry). e .to) (map (λ e. cond (eqb (e .to) v) (record { to = v; kind = k }) e) s)
+        ≡ d .to ∷ map (λ (e : Entry). e .to) s
+    go true e below = rw (eqb-true (d .to) v e, below)
+    go false e below = ap (λ (l : List ℕ). d .to ∷ l) below
+
+-- a turn of any job moves no entry: each star names whom it named, in the same places
+pub turned-places : (j : Job) (u v k : ℕ) → 4 ≤ u → 4 ≤ v
+    → map (λ (s : Star). map (λ (e : Entry). e .to) s) (turned j u v k) ≡ map (λ (s : Star). map (λ (e : Entry). e .to) s) j
+unfolding turned
+turned-places j u v k hu hv = second ∙ first
+  where
+    to : Star → List ℕ
+    to s = map (λ (e : Entry). e .to) s
+
+    t : ℕ
+    t = turnedKind k (isLast (starOf j u) v)
+
+    first : map to (set j (u - 4) (withKind (starOf j u) v t)) ≡ map to j
+    first = map-set-same to j (u - 4) (withKind (starOf j u) v t) [] (same-place v t (starOf j u) ∙ ap to (star-room j u hu))
+
+    kept : to (getD (set j (u - 4) (withKind (starOf j u) v t)) (v - 4) []) ≡ to (getD j (v - 4) [])
+    kept =
+        sym (List·getD-map to (set j (u - 4) (withKind (starOf j u) v t)) (v - 4) [])
+        ∙ ap (λ (l : List (List ℕ)). getD l (v - 4) []) first
+        ∙ List·getD-map to j (v - 4) []
+
+    second : map to (set (set j (u - 4) (withKind (starOf j u) v t)) (v - 4) (withKind (starOf j v) u (opposite t)))
+        ≡ map to (set j (u - 4) (withKind (starOf j u) v t))
+    second =
+        map-set-same to (set j (u - 4) (withKind (starOf j u) v t)) (v - 4) (withKind (starOf j v) u (opposite t)) []
+        (same-place u (opposite t) (starOf j v) ∙ ap to (star-room j v hv) ∙ sym kept)
+
 -- A CONTACT TURNED: b stands on side m of a, and both entries swing at the same end of their lists
 pub record Turn (j : Job) (a b m : ℕ) : Type 0 where
   pub last : Bool
@@ -226,11 +261,11 @@ pub record Turn (j : Job) (a b m : ℕ) : Type 0 where
   pub small : m ≤ 3
   pub swing-a : Swing (starOf j a) b m (turnedKind m last) (not last)
   pub swing-b : Swing (starOf j b) a (opposite m) (turnedKind (opposite m) last) (not last)
-  pub is-last : isLast b (listOf (starOf j a) m) ≡ last
+  pub is-last : isLast (starOf j a) b ≡ last
 
 -- the turned job, where it is known whether b is last
-turned-is : (j : Job) (a b m t : ℕ) (l : Bool) → isLast b (listOf (starOf j a) m) ≡ l → turnedKind m l ≡ t
-    → turned j a b m ≡ set (set j (a - 4) (rekinded (starOf j a) b t)) (b - 4) (rekinded (starOf j b) a (opposite t))
+turned-is : (j : Job) (a b m t : ℕ) (l : Bool) → isLast (starOf j a) b ≡ l → turnedKind m l ≡ t
+    → turned j a b m ≡ set (set j (a - 4) (withKind (starOf j a) b t)) (b - 4) (withKind (starOf j b) a (opposite t))
 unfolding turned
 turned-is j a b m t l e q = rw (e, q)
 
@@ -384,6 +419,71 @@ turning-again j a b m T = rw (next-is j a b m T) (
 pub turn-again : (j : Job) (a b m : ℕ) (T : Turn j a b m) → (turn (turned j a b m) a b ≡ drawn j) × (turn (turned j a b m) b a ≡ drawn j)
 unfolding turn drawRead
 turn-again j a b m T = let (x, y) = turning-again j a b m T in (ap drawRead x, ap drawRead y)
+
+-- AN ENTRY OF A TURNED STAR, that of w: b's at a, a's at b, or one that was there and is neither
+pub data Entered (j : Job) (a b t o w : ℕ) (e : Entry) : Type 0 where
+  new-a : w ≡ a → e .to ≡ b → e .kind ≡ t → Entered j a b t o w e
+  new-b : w ≡ b → e .to ≡ a → e .kind ≡ o → Entered j a b t o w e
+  old : List·Memᴰ e (starOf j w) → (w ≡ a → e .to ≡ b → ⊥) → (w ≡ b → e .to ≡ a → ⊥) → Entered j a b t o w e
+
+-- the same, the two rooms exchanged
+pub entered-swap : {j : Job} {a b t o w : ℕ} {e : Entry} → Entered j a b t o w e → Entered j b a o t w e
+entered-swap (new-a x y z) = new-b x y z
+entered-swap (new-b x y z) = new-a x y z
+entered-swap (old m x y) = old m y x
+
+-- every entry of a turned star is b's at a, a's at b, or one that was there and is neither
+pub turn-entered : (j : Job) (a b m : ℕ) (T : Turn j a b m) (w : ℕ) (e : Entry) → List·Memᴰ e (starOf (turned j a b m) w)
+    → Entered j a b (turnedKind m (T .last)) (turnedKind (opposite m) (T .last)) w e
+turn-entered j a b m T w e i = go (ℕ-discrete w a) (ℕ-discrete w b)
+  where
+    c : Two j (next j a b m T) a b (t j a b m T) (o j a b m T)
+    c = turn-two j a b m T
+
+    n : List·Memᴰ e (starOf (next j a b m T) w)
+    n = rw (next-is j a b m T) at i
+
+    from-a : w ≡ a → (e ≡ entry b (t j a b m T)) ⊎ ((e .to ≡ b → ⊥) × List·Memᴰ e (starOf j a))
+        → Entered j a b (t j a b m T) (o j a b m T) w e
+    from-a x (inl q) = new-a x (ap (λ (d : Entry). d .to) q) (ap (λ (d : Entry). d .kind) q)
+    from-a x (inr (ne, k)) = old (rw x k) (λ y z. ne z) (λ y z. T .differ (sym x ∙ y))
+
+    from-b : w ≡ b → (e ≡ entry a (o j a b m T)) ⊎ ((e .to ≡ a → ⊥) × List·Memᴰ e (starOf j b))
+        → Entered j a b (t j a b m T) (o j a b m T) w e
+    from-b x (inl q) = new-b x (ap (λ (d : Entry). d .to) q) (ap (λ (d : Entry). d .kind) q)
+    from-b x (inr (ne, k)) = old (rw x k) (λ y z. T .differ (sym y ∙ x)) (λ y z. ne z)
+
+    go : Dec (w ≡ a) → Dec (w ≡ b) → Entered j a b (t j a b m T) (o j a b m T) w e
+    go (yes x) y = from-a x (c .into-u e (rw x at n))
+    go (no x) (yes y) = from-b y (c .into-v e (rw y at n))
+    go (no x) (no y) = old (rw (c .same w x y) at n) (λ z q. x z) (λ z q. y z)
+
+-- what was there and is neither, is there still; the stars of a and b are those that swung, and every other is what it was
+module _ (j : Job) (a b m : ℕ) (T : Turn j a b m) where
+  -- an entry that is neither b's at a nor a's at b is still there after the turn
+  pub turn-kept : (w : ℕ) (e : Entry) → List·Memᴰ e (starOf j w) → (w ≡ a → e .to ≡ b → ⊥) → (w ≡ b → e .to ≡ a → ⊥)
+      → List·Memᴰ e (starOf (turned j a b m) w)
+  turn-kept w e i na nb = rw (next-is j a b m T) (go (ℕ-discrete w a) (ℕ-discrete w b))
+    where
+      c : Two j (next j a b m T) a b (t j a b m T) (o j a b m T)
+      c = turn-two j a b m T
+
+      go : Dec (w ≡ a) → Dec (w ≡ b) → List·Memᴰ e (starOf (next j a b m T) w)
+      go (yes x) y = rw x (c .from-u e (rw x at i) (na x))
+      go (no x) (yes y) = rw y (c .from-v e (rw y at i) (nb y))
+      go (no x) (no y) = rw (c .same w x y) i
+
+  -- in the turned job the star of a is the one that swung
+  pub turn-star-a : starOf (turned j a b m) a ≡ T .swing-a .star
+  turn-star-a = rw (next-is j a b m T) (star-a j a b m T)
+
+  -- in the turned job the star of b is the one that swung
+  pub turn-star-b : starOf (turned j a b m) b ≡ T .swing-b .star
+  turn-star-b = rw (next-is j a b m T) (star-b j a b m T)
+
+  -- in the turned job the star of every other vertex is what it was
+  pub turn-else : (w : ℕ) → (w ≡ a → ⊥) → (w ≡ b → ⊥) → starOf (turned j a b m) w ≡ starOf j w
+  turn-else w x y = rw (next-is j a b m T) (else j a b m T w x y)
 
 -- what a turn keeps
 pub turn-keeps : (j : Job) (a b m : ℕ) → Turn j a b m → Passes j → Kept j (turned j a b m)

@@ -2,15 +2,15 @@
 -- Assumes nothing.
 use mathlib.Core.Path.{_≡_, refl, ap}
 use mathlib.Core.Logic.{_⊎_, inl, inr}
-use mathlib.Core.Bool.{Bool, true, false, _&&_}
+use mathlib.Core.Bool.{Bool, true, false, cond, _&&_}
 use mathlib.Core.Option.{Option, none, some}
 use mathlib.Core.List.{List, [], _∷_, _++_, List·Memᴰ, List·Memᴰ·head, List·Memᴰ·tail, Memᴰ·append-left, Memᴰ·append-right, List·Memᴰ·append-cases}
-use Prim.Native.Nat.{ℕ, zero, suc, _+_, _*_, _≤_, _<_}
+use Prim.Native.Nat.{ℕ, zero, suc, _+_, _-_, _*_, _/_, _%_, _≤_, _<_, max}
 use native.Mathlib.Omega.{arith}
 use native.Mathlib.Decide.{ℕ-discrete}
 use lib.Dec.{leb, eqb}
 use lib.ListN.{length, getD}
-use borrow.Author.Tests.{leb-true, eqb-true, eq-eqb, le-leb}
+use borrow.Author.Tests.{leb-true, eqb-true, eq-eqb, ne-eqb, le-leb}
 use Rattle.floor.specs.Lists.Laws.{and-parts, and-both}
 use Rattle.floor.specs.Jobs.{Entry, Star, Job}
 use Rattle.floor.specs.Jobs.Facts.{Passes, star-at}
@@ -242,3 +242,45 @@ module _ (a : Axis) (j : Job) (k : Named j) where
 -- LEAST: no numbers that respect the rules are smaller anywhere
 pub numbers-least : (a : Axis) (j : Job) (f g : ℕ → ℕ) → Numbers (rules a j) f → Positive g → Respects (rules a j) g → (s : ℕ) → f s ≤ g s
 numbers-least a j f g n p r s = walk-le g p r (numbers-walk (rules a j) f n s)
+
+-- nor are numbers that respect them, and by which every room begins at 1 or later, whatever they are elsewhere
+pub least-below : (a : Axis) (j : Job) → Named j → (f g : ℕ → ℕ) → Numbers (rules a j) f → Obeys a g j → ((i : ℕ) → i < length j → 1 ≤ g (low (4 + i)))
+    → (s : ℕ) → f s ≤ max 1 (g s)
+least-below a j k f g n o from s = numbers-least a j f (λ s. max 1 (g s)) n (λ s. omega arith) (obeys-respects a (λ s. max 1 (g s)) j obeys) s
+  where
+    obeys : Obeys a (λ s. max 1 (g s)) j
+    obeys = record {
+      own = λ i h. omega (arith, o .own i h, from i h);
+      each = λ i h e m. record {
+        if-far = λ q. ap (λ v. max 1 v) (o .each i h e m .if-far q);
+        if-near = λ q. ap (λ v. max 1 v) (o .each i h e m .if-near q);
+        if-cross = λ q l.
+            let (x, y) = o .each i h e m .if-cross q l in
+            let z : 4 + (e .to - 4) ≡ e .to = omega arith in
+            let c : 1 ≤ g (low (e .to)) = rw z at (from (e .to - 4) (omega (arith, k i h e m))) in
+            (omega (arith, from i h), omega arith);
+      };
+    }
+
+-- numbers on the sides, from those at which each vertex begins and ends
+unfoldable pub sided : (ℕ → ℕ) → (ℕ → ℕ) → ℕ → ℕ
+sided lo hi n = cond (eqb (n % 2) 0) (lo (n / 2)) (hi (n / 2))
+
+module _ (lo hi : ℕ → ℕ) where
+  -- the low side of a vertex has the number at which the vertex begins
+  pub sided-low : (v : ℕ) → sided lo hi (low v) ≡ lo v
+  unfolding sided
+  sided-low v = let e : (2 * v) / 2 ≡ v = omega arith in rw (eq-eqb ((2 * v) % 2) 0 (omega arith), e)
+
+  -- the high side of a vertex has the number at which the vertex ends
+  pub sided-high : (v : ℕ) → sided lo hi (high v) ≡ hi v
+  unfolding sided
+  sided-high v = let e : (2 * v + 1) / 2 ≡ v = omega arith in rw (ne-eqb ((2 * v + 1) % 2) 0 (λ z. omega arith), e)
+
+  -- what they do, they do on the sides
+  pub sided-same : (r t : ℕ) → hi r ≡ lo t → Holds (sided lo hi) (same (high r) (low t))
+  sided-same r t e = rw (sided-high r, sided-low t) e
+
+  -- where t ends at least 1 + g after r begins, the numbers respect that r's low wall comes before t's high wall by as much
+  pub sided-before : (r t g : ℕ) → lo r + suc g ≤ hi t → Holds (sided lo hi) (before (low r) (high t) g)
+  sided-before r t g h = rw (sided-low r, sided-high t) h

@@ -9,6 +9,9 @@ stays-requires c κs = search needs
 returns : tie.Need-returns
 returns c = search (stays-tells, ten-turn, needs)
 
+slice-aggregate-turn-held : tie.Need-slice-aggregate-turn-held
+slice-aggregate-turn-held c = search needs
+
 wide-requires : tie.Need-wide-requires
 wide-requires c κs = search needs
 
@@ -24,15 +27,14 @@ stays-requires-2 c κs = search needs
 enum-told : tie.Need-enum-told
 enum-told c = search needs
 
-hold-drawn-requires : tie.Need-hold-drawn-requires
-hold-drawn-requires c κs = search needs
+hold-numbered-requires : tie.Need-hold-numbered-requires
+hold-numbered-requires c κs = search needs
 
 returns-2 : tie.Need-returns-2
-returns-2 c =
-    let held = c .before .before .before .before in
+returns-2 c = let held = c .before .before .before .before .before in
     stays-tells _ _ _ _ _ (c .stays2 .ensures)
-    (turn-stops _ (held .before .before .before .before .before .before .before .before .before .before .before .before .if1 .left) _ _ _
-    (held .before .wide .ensures .0) _ _ _ (held .turn-held .ensures) _ (c .before .before .swing .given .1))
+    (turn-stops _ (held .before .before .before .before .before .before .before .before .before .before .if1 .left) _ _ _ (held .before .wide .ensures .0) _ _
+    (held .turn-held .ensures) _ (c .before .before .swing .given .1))
 
 returns-3 : tie.Need-returns-3
 returns-3 c = search (turn-swings, needs)
@@ -43,11 +45,12 @@ turn-spec =
     (tie.spec
     stays-requires
     returns
+    slice-aggregate-turn-held
     wide-requires
     turn-held-requires
     enum-known-swing
     stays-requires-2
     enum-told
-    hold-drawn-requires
+    hold-numbered-requires
     returns-2
     returns-3)

@@ -4,10 +4,10 @@ use Rattle.orders.proofs.parts.parts_of.Statement.{statement}
 use Rattle.orders.proofs.parts.parts_of.Tie as tie
 
 abbrev Inv-loop : tie.InvT-loop
-Inv-loop cross ends nbr kind i end k₀ first₀ middle₀ last₀ across₀ k first middle last across = (first ≤ k) × (middle ≤ k) × (last ≤ k) × (across ≤ k)
+Inv-loop cross ends nbr kind i end k₀ parts₀ across₀ before₀ k parts across before = across ≤ k
 
 abbrev μ-loop : tie.MeasureT-loop
-μ-loop cross ends nbr kind i end k₀ first₀ middle₀ last₀ across₀ k first middle last across = end - k
+μ-loop cross ends nbr kind i end k₀ parts₀ across₀ before₀ k parts across before = end - k
 
 end-of-requires : tie.Need-end-of-requires Inv-loop μ-loop
 end-of-requires c κs = search needs
@@ -15,29 +15,20 @@ end-of-requires c κs = search needs
 start-of-requires : tie.Need-start-of-requires Inv-loop μ-loop
 start-of-requires c κs = search needs
 
-loop-holds : tie.Need-loop-holds Inv-loop μ-loop
-loop-holds c = search needs
+sub-kind-at : tie.Need-sub-kind-at Inv-loop μ-loop
+sub-kind-at c = search needs
 
 kind-at-requires : tie.Need-kind-at-requires Inv-loop μ-loop
 kind-at-requires c κs = search needs
 
-one-requires : tie.Need-one-requires Inv-loop μ-loop
-one-requires c κs = search needs
+loop-holds : tie.Need-loop-holds Inv-loop μ-loop
+loop-holds c = search needs
 
-add-first : tie.Need-add-first Inv-loop μ-loop
-add-first c = search needs
+kind-at-requires-2 : tie.Need-kind-at-requires-2 Inv-loop μ-loop
+kind-at-requires-2 c κs = search needs
 
-one-requires-2 : tie.Need-one-requires-2 Inv-loop μ-loop
-one-requires-2 c κs = search needs
-
-add-middle : tie.Need-add-middle Inv-loop μ-loop
-add-middle c = search needs
-
-one-requires-3 : tie.Need-one-requires-3 Inv-loop μ-loop
-one-requires-3 c κs = search needs
-
-add-last : tie.Need-add-last Inv-loop μ-loop
-add-last c = search needs
+with-start-requires : tie.Need-with-start-requires Inv-loop μ-loop
+with-start-requires c κs = search needs
 
 to-at-requires : tie.Need-to-at-requires Inv-loop μ-loop
 to-at-requires c κs = search needs
@@ -68,14 +59,11 @@ parts-of-spec =
     μ-loop
     end-of-requires
     start-of-requires
-    loop-holds
+    sub-kind-at
     kind-at-requires
-    one-requires
-    add-first
-    one-requires-2
-    add-middle
-    one-requires-3
-    add-last
+    loop-holds
+    kind-at-requires-2
+    with-start-requires
     to-at-requires
     one-across-requires
     add-across

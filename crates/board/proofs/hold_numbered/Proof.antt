@@ -1,0 +1,38 @@
+use Rattle.drawing.specs.Drawn.{numberedAny}
+use Rattle.board.proofs.Answering.{stays-tells, drawn-not, drawn-so, stars-drawn}
+use borrow.Author.Needs.{needs}
+use Rattle.board.proofs.hold_numbered.Statement.{statement}
+use Rattle.board.proofs.hold_numbered.Tie as tie
+
+wide-requires : tie.Need-wide-requires
+wide-requires c κs = search needs
+
+plan-stars-requires : tie.Need-plan-stars-requires
+plan-stars-requires c κs = search needs
+
+enum-told : tie.Need-enum-told
+enum-told c = search needs
+
+enum-known-drawn : tie.Need-enum-known-drawn
+enum-known-drawn c = search needs
+
+stays-requires : tie.Need-stays-requires
+stays-requires c κs = search needs
+
+returns : tie.Need-returns
+returns c = search (drawn-so, stars-drawn numberedAny, needs)
+
+returns-2 : tie.Need-returns-2
+returns-2 c = search (stays-tells, drawn-not, stars-drawn numberedAny, needs)
+
+pub hold-numbered-spec : {M : Type 1} → statement M
+hold-numbered-spec =
+    tie.close
+    (tie.spec
+    wide-requires
+    plan-stars-requires
+    enum-told
+    enum-known-drawn
+    stays-requires
+    returns
+    returns-2)

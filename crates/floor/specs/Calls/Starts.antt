@@ -1,0 +1,416 @@
+-- Jobs that differ only in their starts: every test, the numbers, the plan and every turn answer them alike. Assumes nothing.
+use Prim.Native.Nat.{ℕ, zero, suc, _-_}
+use mathlib.Core.Path.{_≡_, refl, sym, ap, _∙_, fun-ext}
+use mathlib.Core.Bool.{Bool, true, false, cond, not, _&&_, _||_}
+use mathlib.Core.Option.{Option, none, some}
+use mathlib.Core.List.{List, [], _∷_}
+use lib.ListN.{length, getD, set, length-append}
+use lib.Dec.{leb, eqb}
+use native.Mathlib.Omega.{arith}
+use Rattle.floor.specs.Lists.{all, pairwise, sum}
+use Rattle.floor.specs.Lists.Laws.{same-test, and-parts}
+use Rattle.floor.specs.Jobs.{Entry, Star, changes, Restarted, Job, OnlyStarts, no-room, one-more, opposite, rooms, isVertex, isRoom, starOf, names, SixPassed}
+use Rattle.floor.specs.Jobs.{lists, kindOf, listOf, pairsIn, goesOn, starOk, test3, entryOk, test4, test5, test6, Reading, fails, reads, readJob, passing}
+use Rattle.floor.specs.Jobs.{firstSix, writeJob}
+use Rattle.floor.specs.Jobs.Round.{restart-none, restart-back, restart-mem, restart-count, restart-all, restart-any, links-all, links-count}
+use Rattle.floor.specs.Jobs.Stars.{once-of, of-once, kindOf-mem}
+use Rattle.floor.specs.Jobs.Facts.{Passes, is-room, passes-of, six-passed, labelling-passes}
+use Rattle.floor.specs.Jobs.Written.{length-writeJob}
+use Rattle.floor.specs.Walls.{Axis, upright, level, Respects, rules, at, jobNumbers}
+use Rattle.floor.specs.Walls.Walk.{numbers-respects, numbers-positive}
+use Rattle.floor.specs.Walls.Rules.{obeys-respects, respects-obeys, numbered, numbers-are, numbers-least, to-vertex}
+use Rattle.floor.specs.Plans.{Plan, planOf, joined, sharesJoined, inOrder, roundInOrder, drawable, Answer, refused, held, past, tested, planned, Alike, one-plan, one-refusal}
+use Rattle.floor.specs.Plans.{drawn, drawRead, writePlan}
+use Rattle.floor.specs.Turns.{turned, turningAt, turningFrom, inContact, turning, turn, turnedBy}
+use Rattle.floor.specs.Turns.Swing.{last-restarted, restart-turned, length-listOf}
+use Rattle.floor.specs.Turns.Restore.{turnable, turned-keeps}
+use Rattle.floor.specs.Calls.{load, Board, empty, holding, Call, loads, turns, rectangle, shares, writesJob, writesPlan, Reply, wrote, Step, refuse, BoardsAlike, StepsAlike, both-empty, both-hold}
+use Rattle.floor.specs.Calls.{after, asks, writes, step, run}
+use Rattle.floor.specs.Calls.Sound.{Sound, SoundBoard, sound-good, step-sound}
+use Rattle.floor.specs.Calls.Exact.{kind-found}
+
+-- WHAT JOBS THAT DIFFER ONLY IN THEIR STARTS HAVE IN COMMON
+pub starts-back : {j i : Job} → OnlyStarts j i → OnlyStarts i j
+starts-back no-room = no-room
+starts-back (one-more r o) = one-more (restart-back r) (starts-back o)
+
+-- jobs that differ only in their starts have equally many rooms
+pub starts-length : {j i : Job} → OnlyStarts j i → length j ≡ length i
+starts-length no-room = refl
+starts-length (one-more r o) = ap suc (starts-length o)
+
+-- place by place, the star of the other job is the star of the one, started elsewhere
+starts-at : {j i : Job} → OnlyStarts j i → (n : ℕ) → Restarted (getD j n []) (getD i n [])
+starts-at no-room n = restart-none []
+starts-at (one-more r o) zero = r
+starts-at (one-more r o) (suc n) = starts-at o n
+
+-- each vertex's star in the other job is its star in the one, started elsewhere
+pub starts-star : {j i : Job} → OnlyStarts j i → (v : ℕ) → Restarted (starOf j v) (starOf i v)
+unfolding starOf
+starts-star {j} {i} o v = go (leb 4 v)
+  where
+    go : (b : Bool) → Restarted (cond b (getD j (v - 4) []) []) (cond b (getD i (v - 4) []) [])
+    go true = starts-at o (v - 4)
+    go false = restart-none []
+
+-- a test of every star
+starts-all : (p : Star → Bool) → ((s t : Star) → Restarted s t → p s ≡ p t) → {j i : Job} → OnlyStarts j i → all p j ≡ all p i
+unfolding all
+starts-all p h no-room = refl
+starts-all p h (one-more {s} {t} r o) = rw (h s t r, starts-all p h o)
+
+-- TESTS 3 TO 6
+length-restarted : {s t : Star} → Restarted s t → length s ≡ length t
+length-restarted r =
+    omega (
+      arith,
+      ap (λ (s : Star). length s) (r .is-one),
+      ap (λ (s : Star). length s) (r .is-other),
+      length-append (r .front) (r .rest),
+      length-append (r .rest) (r .front),
+    )
+
+-- jobs that differ only in their starts have equally many pairs
+pairs-same : {j i : Job} → OnlyStarts j i → pairsIn j ≡ pairsIn i
+unfolding pairsIn sum
+pairs-same no-room = refl
+pairs-same (one-more r o) = omega (arith, length-restarted r, pairs-same o)
+
+-- where no neighbour stands twice in a star, none does in that star started elsewhere
+twice-same : (s t : Star) → Restarted s t → pairwise (λ d e. not (eqb (d .to) (e .to))) s ≡ true → pairwise (λ d e. not (eqb (d .to) (e .to))) t ≡ true
+twice-same s t r h =
+    of-once t (λ e m. sym (restart-count r (λ (d : Entry). eqb (d .to) (e .to))) ∙ once-of s h e (restart-mem (restart-back r) m))
+
+-- whether those of one kind stand in order once round a star does not hang on where it starts
+order-same : (p : Plan) (s t : Star) → Restarted s t → roundInOrder p s ≡ roundInOrder p t
+unfolding roundInOrder
+order-same p s t r = links-all r (inOrder p)
+
+-- whether a star passes test 5 does not hang on where it starts
+starOk-same : (s t : Star) → Restarted s t → starOk s ≡ starOk t
+unfolding starOk
+starOk-same s t r =
+    rw (
+      links-all r goesOn,
+      links-count r changes,
+      same-test (pairwise (λ d e. not (eqb (d .to) (e .to))) s) (pairwise (λ d e. not (eqb (d .to) (e .to))) t) (twice-same s t r)
+          (twice-same t s (restart-back r)),
+    )
+
+module _ {j i : Job} (o : OnlyStarts j i) where
+  -- the two jobs have the same rooms
+  rooms-same : rooms j ≡ rooms i
+  unfolding rooms
+  rooms-same = rw (starts-length o)
+
+  -- test 3 answers both alike
+  test3-same : test3 j ≡ test3 i
+  unfolding test3
+  test3-same = rw (pairs-same o)
+
+  -- test 4 answers both alike
+  test4-same : test4 j ≡ test4 i
+  unfolding test4
+  test4-same =
+      ap (λ (l : List ℕ). all (λ u. all (entryOk (length j) u) (starOf j u)) l) rooms-same ∙ ap (λ (p : ℕ → Bool). all p (rooms i)) (fun-ext each)
+    where
+      each : (u : ℕ) → all (entryOk (length j) u) (starOf j u) ≡ all (entryOk (length i) u) (starOf i u)
+      each u = restart-all (starts-star o u) (entryOk (length j) u) ∙ ap (λ n. all (entryOk n u) (starOf i u)) (starts-length o)
+
+  -- test 5 answers both alike
+  test5-same : test5 j ≡ test5 i
+  unfolding test5
+  test5-same = starts-all starOk starOk-same o
+
+  -- the star of a vertex lists another with a kind in the one job exactly if it does in the other
+  lists-same : (v u k : ℕ) → lists (starOf j v) u k ≡ lists (starOf i v) u k
+  unfolding lists
+  lists-same v u k = restart-any (starts-star o v) (λ e. eqb (e .to) u && eqb (e .kind) k)
+
+  -- test 6 answers both alike
+  test6-same : test6 j ≡ test6 i
+  unfolding test6
+  test6-same = ap (λ (l : List ℕ). all (asked j) l) rooms-same ∙ ap (λ (p : ℕ → Bool). all p (rooms i)) (fun-ext each)
+    where
+      asks : Job → ℕ → Entry → Bool
+      asks h u e = not (leb 4 (e .to)) || lists (starOf h (e .to)) u (opposite (e .kind))
+
+      asked : Job → ℕ → Bool
+      asked h u = all (asks h u) (starOf h u)
+
+      each : (u : ℕ) → asked j u ≡ asked i u
+      each u =
+          restart-all (starts-star o u) (asks j u)
+          ∙ ap (λ (p : Entry → Bool). all p (starOf i u)) (fun-ext (λ e. ap (λ b. not (leb 4 (e .to)) || b) (lists-same (e .to) u (opposite (e .kind)))))
+
+  -- THE NUMBERS
+  respects-same : (a : Axis) (g : ℕ → ℕ) → Respects (rules a j) g → Respects (rules a i) g
+  respects-same a g r =
+      let t = respects-obeys a g j r in
+      obeys-respects a g i (record {
+        own = λ n h. t .own n (omega (arith, starts-length o));
+        each = λ n h e m. t .each n (omega (arith, starts-length o)) e (restart-mem (restart-back (starts-at o n)) m);
+      })
+
+  -- WHO IS JOINED, AND THE DRAWING TEST
+  names-same : (u v : ℕ) → names (starOf j u) v ≡ names (starOf i u) v
+  unfolding names
+  names-same u v = restart-any (starts-star o u) (λ e. eqb (e .to) v)
+
+  -- whether two rectangles that share a wall are joined is the same for both
+  shares-same : sharesJoined j ≡ sharesJoined i
+  unfolding sharesJoined joined
+  shares-same = fun-ext (λ r. fun-ext (λ s. rw (names-same (r .vertex) (s .vertex), names-same (s .vertex) (r .vertex))))
+
+  -- a plan passes the drawing test for the one exactly if it does for the other
+  drawable-same : (p : Plan) → drawable j p ≡ drawable i p
+  unfolding drawable
+  drawable-same p = rw (shares-same, starts-all (roundInOrder p) (order-same p) o)
+
+  -- the plan by given wall numbers is the same for both
+  plan-same : (f g : ℕ → ℕ) → planOf j f g ≡ planOf i f g
+  unfolding planOf
+  plan-same f g = rw rooms-same
+
+-- the numbers of both
+numbers-same : {j i : Job} → OnlyStarts j i → Passes j → Passes i → (a : Axis) (f : List ℕ) → jobNumbers a j ≡ some f
+    → (g : List ℕ) × (jobNumbers a i ≡ some g) × (at f ≡ at g)
+numbers-same {j} {i} o ok ok′ a f e =
+    let nf = numbers-are a j (to-vertex j ok) f e in
+    let (g, q) = numbered a i (to-vertex i ok′) (at f) (respects-same o a (at f) (numbers-respects (rules a j) (at f) nf)) in
+    let ng = numbers-are a i (to-vertex i ok′) g q in (
+      g,
+      q,
+      fun-ext (λ s. omega (
+        arith,
+        numbers-least a j (at f) (at g) nf (numbers-positive (rules a i) (at g) ng)
+            (respects-same (starts-back o) a (at g) (numbers-respects (rules a i) (at g) ng)) s,
+        numbers-least a i (at g) (at f) ng (numbers-positive (rules a j) (at f) nf)
+            (respects-same o a (at f) (numbers-respects (rules a j) (at f) nf)) s,
+      )),
+    )
+
+-- TESTS 7 AND 9: numbered and drawn alike
+pub drawn-alike : {j i : Job} → OnlyStarts j i → Passes j → Passes i → Alike (drawn j) (drawn i)
+unfolding drawn
+drawn-alike {j} {i} o ok ok′ =
+    go (jobNumbers upright j) refl (jobNumbers level j) refl (jobNumbers upright i) refl (jobNumbers level i) refl
+  where
+    no-none : {X : Type 0} {f : List ℕ} → none ≡ some f → X
+    no-none e = let z : _≡_ {A = ℕ} 0 1 = cc in absurd (omega arith)
+
+    same-list : {f g : List ℕ} → some f ≡ some g → f ≡ g
+    same-list e = cc
+
+    gone : (a : Axis) → jobNumbers a j ≡ none → (g : List ℕ) → jobNumbers a i ≡ some g → ⊥
+    gone a e g q = let (f, x, y) = numbers-same (starts-back o) ok′ ok a g q in no-none (sym e ∙ x)
+
+    there : (a : Axis) (f : List ℕ) → jobNumbers a j ≡ some f → jobNumbers a i ≡ none → ⊥
+    there a f e q = let (g, x, y) = numbers-same o ok ok′ a f e in no-none (sym q ∙ x)
+
+    both : (a : Axis) (f g : List ℕ) → jobNumbers a j ≡ some f → jobNumbers a i ≡ some g → at f ≡ at g
+    both a f g e q = let (h, x, y) = numbers-same o ok ok′ a f e in y ∙ ap at (same-list (sym x ∙ q))
+
+    one-test : (p : Plan) → Alike (tested j p) (tested i p)
+    one-test p = unfold tested past in rw (drawable-same o p) (two (drawable i p))
+      where
+        two : (b : Bool) → Alike (past b 9 (λ _. held j p)) (past b 9 (λ _. held i p))
+        two true = unfold past in one-plan o
+        two false = unfold past in one-refusal
+
+    no-numbers : (h : Job) (y : Option (List ℕ)) → planned h none y ≡ refused 7
+    no-numbers h none = unfold planned in refl
+    no-numbers h (some g) = unfold planned in refl
+
+    go : (x : Option (List ℕ)) → jobNumbers upright j ≡ x → (y : Option (List ℕ)) → jobNumbers level j ≡ y
+        → (z : Option (List ℕ)) → jobNumbers upright i ≡ z → (w : Option (List ℕ)) → jobNumbers level i ≡ w → Alike (planned j x y) (planned i z w)
+    go none a y b none c w d = rw (no-numbers j y, no-numbers i w) one-refusal
+    go none a y b (some g) c w d = absurd (gone upright a g c)
+    go (some f) a y b none c w d = absurd (there upright f a c)
+    go (some f) a none b (some g) c none d = unfold planned in one-refusal
+    go (some f) a none b (some g) c (some h) d = absurd (gone level b h d)
+    go (some f) a (some e) b (some g) c none d = absurd (there level e b d)
+    go (some f) a (some e) b (some g) c (some h) d =
+        unfold planned in rw (both upright f g a c, both level e h b d, plan-same o (at g) (at h)) (one-test (planOf i (at g) (at h)))
+
+-- A JOB READ, OR TURNED, alike: the same number, or jobs that differ only in their starts
+data ReadAlike : Reading → Reading → Type 0 where
+  one-number : {k : ℕ} → ReadAlike (fails k) (fails k)
+  one-job : {j i : Job} → OnlyStarts j i → ReadAlike (reads j) (reads i)
+
+-- a test that answers both alike, and what follows it alike where it is passed: what comes of them is alike
+passing-alike : (a b : Bool) (k : ℕ) (r q : Reading) → a ≡ b → (b ≡ true → ReadAlike r q) → ReadAlike (passing a k r) (passing b k q)
+unfolding passing
+passing-alike a true k r q e h = rw e (h refl)
+passing-alike a false k r q e h = rw e one-number
+
+-- what was read alike is drawn alike, where the jobs read are
+draw-alike : {r q : Reading} → ReadAlike r q → ((j i : Job) → r ≡ reads j → q ≡ reads i → OnlyStarts j i → Alike (drawn j) (drawn i))
+    → Alike (drawRead r) (drawRead q)
+unfolding drawRead
+draw-alike one-number h = one-refusal
+draw-alike (one-job {j} {i} o) h = h j i refl refl o
+
+-- LOADED ALIKE
+pub load-alike : (bs cs : List ℕ) (j i : Job) → readJob bs ≡ reads j → readJob cs ≡ reads i → OnlyStarts j i → Alike (load bs) (load cs)
+unfolding load firstSix
+load-alike bs cs j i e q o = rw (e, q) (draw-alike six (λ j i x y o. drawn-alike o (ok j x) (ok′ i y)))
+  where
+    six : ReadAlike (firstSix (reads j)) (firstSix (reads i))
+    six =
+        passing-alike (test3 j) (test3 i) 3 _ _ (test3-same o)
+        (λ _. passing-alike (test4 j) (test4 i) 4 _ _ (test4-same o)
+        (λ _. passing-alike (test5 j) (test5 i) 5 _ _ (test5-same o) (λ _. passing-alike (test6 j) (test6 i) 6 _ _ (test6-same o) (λ _. one-job o))))
+
+    passes : (r : Reading) (h : Job) → firstSix r ≡ reads h → Passes h
+    passes r h x = let s : SixPassed r h = six-passed r h x in passes-of h (s .pass4) (s .pass5) (s .pass6)
+
+    ok : (h : Job) → firstSix (reads j) ≡ reads h → Passes h
+    ok = passes (reads j)
+
+    ok′ : (h : Job) → firstSix (reads i) ≡ reads h → Passes h
+    ok′ = passes (reads i)
+
+-- TURNED ALIKE
+starts-set : {j i : Job} → OnlyStarts j i → (n : ℕ) {s t : Star} → Restarted s t → OnlyStarts (set j n s) (set i n t)
+starts-set no-room n r = no-room
+starts-set (one-more q o) zero r = one-more r o
+starts-set (one-more q o) (suc n) r = one-more q (starts-set o n r)
+
+module _ {j i : Job} (o : OnlyStarts j i) where
+  -- turned at one and the same contact, the two jobs still differ only in their starts
+  turned-starts : (u v k : ℕ) → OnlyStarts (turned j u v k) (turned i u v k)
+  unfolding turned
+  turned-starts u v k = rw (last-restarted (starts-star o u) v) (starts-set (starts-set o (u - 4) (restart-turned (starts-star o u) v _)) (v - 4)
+      (restart-turned (starts-star o v) u _))
+
+  -- the list of each kind of each vertex is as long in the one as in the other
+  many-same : (u k : ℕ) → length (listOf (starOf j u) k) ≡ length (listOf (starOf i u) k)
+  many-same u k =
+      length-listOf (starOf j u) k ∙ restart-count (starts-star o u) (λ (e : Entry). eqb (e .kind) k) ∙ sym (length-listOf (starOf i u) k)
+
+  -- both fail by 12, or both give turned jobs, and these differ only in their starts
+  at-alike : (u v k : ℕ) → ReadAlike (turningAt j u v k) (turningAt i u v k)
+  unfolding turningAt
+  at-alike u v k =
+      passing-alike _ _ 12 _ _ (rw (many-same u k, many-same v (opposite k))) (λ _. one-job (turned-starts u v k))
+
+  -- the same, from whichever of the two rooms the contact is read
+  from-alike : (b : Bool) (u v k : ℕ) → ReadAlike (turningFrom b j u v k) (turningFrom b i u v k)
+  unfolding turningFrom
+  from-alike true u v k = at-alike u v k
+  from-alike false u v k = at-alike v u (opposite k)
+
+  -- a number is a room of the one exactly if it is a room of the other
+  room-same : (v : ℕ) → isRoom j v ≡ isRoom i v
+  unfolding isRoom isVertex
+  room-same v = rw (starts-length o)
+
+  -- a number is a vertex of the one exactly if it is a vertex of the other
+  vertex-same : (v : ℕ) → isVertex j v ≡ isVertex i v
+  unfolding isVertex
+  vertex-same v = rw (starts-length o)
+
+  -- written, the two jobs have equally many bytes
+  written-same : length (writeJob j) ≡ length (writeJob i)
+  written-same = omega (arith, length-writeJob j, length-writeJob i, starts-length o, pairs-same o)
+
+  -- where the other passes tests 4 to 6, turning comes to the same: 11, 12, or turned jobs that differ only in their starts
+  turning-alike : Passes i → (u v : ℕ) → ReadAlike (turning j u v) (turning i u v)
+  unfolding turning inContact
+  turning-alike ok u v = passing-alike _ _ 11 _ _ (rw (room-same u, room-same v, names-same o u v)) go
+    where
+      go : (isRoom i u && isRoom i v && names (starOf i u) v) ≡ true
+          → ReadAlike (turningFrom (eqb (kindOf (starOf j u) v) 0 || eqb (kindOf (starOf j u) v) 3) j u v (kindOf (starOf j u) v))
+          (turningFrom (eqb (kindOf (starOf i u) v) 0 || eqb (kindOf (starOf i u) v) 3) i u v (kindOf (starOf i u) v))
+      go c =
+          let (xy, n) = and-parts (isRoom i u && isRoom i v) (names (starOf i u) v) c in
+          let (x, y) = and-parts (isRoom i u) (isRoom i v) xy in
+          let e : kindOf (starOf i u) v ≡ kindOf (starOf j u) v = kind-found (starOf i u) v (kindOf (starOf j u) v) (ok .good u (is-room i u x))
+          (restart-mem (starts-star o u) (kindOf-mem (starOf j u) v (names-same o u v ∙ n))) in
+          rw e (from-alike (eqb (kindOf (starOf j u) v) 0 || eqb (kindOf (starOf j u) v) 3) u v (kindOf (starOf j u) v))
+
+-- such jobs, each held with a plan, answer a turn alike: by the same refusal, or with equal plans
+pub turn-alike : {j i : Job} → OnlyStarts j i → (p q : Plan) → Sound j p → Sound i q → (u v : ℕ) → Alike (turn j u v) (turn i u v)
+unfolding turn
+turn-alike {j} {i} o p q s t u v =
+    draw-alike (turning-alike o (t .passes) u v) (λ h g x y r. drawn-alike r (kept j p s h x) (kept i q t g y))
+  where
+    kept : (j : Job) (p : Plan) → Sound j p → (h : Job) → turning j u v ≡ reads h → Passes h
+    kept j p s h x =
+        let (t, e) = turnable j u v (s .passes) h x in
+        rw e at (labelling-passes (turnedBy t) (turned-keeps j (s .passes) p (sound-good j p s) t .labelling))
+
+-- a job differs from itself in no start
+starts-none : (j : Job) → OnlyStarts j j
+starts-none [] = no-room
+starts-none (s ∷ j) = one-more (restart-none s) (starts-none j)
+
+-- every answer is the same as itself
+answer-itself : (r : Answer) → Alike r r
+answer-itself (refused k) = one-refusal
+answer-itself (held j p) = one-plan (starts-none j)
+
+-- boards alike, given the same answer, give the same reply and are alike again
+pub after-alike : (b c : Board) {r q : Answer} → BoardsAlike b c → Alike r q → StepsAlike (after b r) (after c q)
+unfolding after refuse
+after-alike b c x one-refusal = record { one-reply = refl; boards = x }
+after-alike b c x (one-plan o) = record { one-reply = refl; boards = both-hold o }
+
+-- a question with one answer, allowed on both boards or on neither, gets the same reply and leaves them alike
+asks-alike : (b c : Board) (x y : Bool) (r : Reply) → x ≡ y → BoardsAlike b c → StepsAlike (asks b x r) (asks c y r)
+unfolding asks refuse
+asks-alike b c x true r e h = rw e (record { one-reply = refl; boards = h })
+asks-alike b c x false r e h = rw e (record { one-reply = refl; boards = h })
+
+-- two writings of one length into one buffer get the same reply and leave the boards alike
+writes-alike : (b c : Board) (bs cs buf : List ℕ) → length bs ≡ length cs → BoardsAlike b c
+    → StepsAlike (writes b (leb (length bs) (length buf)) bs buf) (writes c (leb (length cs) (length buf)) cs buf)
+unfolding writes refuse
+writes-alike b c bs cs buf e h = rw e (go (leb (length cs) (length buf)))
+  where
+    go : (x : Bool) → StepsAlike (writes b x bs buf) (writes c x cs buf)
+    go true = record { one-reply = ap wrote e; boards = h }
+    go false = record { one-reply = refl; boards = h }
+
+-- every board is like itself
+boards-itself : (b : Board) → BoardsAlike b b
+boards-itself empty = both-empty
+boards-itself (holding j p) = both-hold (starts-none j)
+
+-- such jobs loaded into one board
+pub loaded-alike : (b : Board) (bs cs : List ℕ) (j i : Job) → readJob bs ≡ reads j → readJob cs ≡ reads i → OnlyStarts j i
+    → BoardsAlike (step b (loads bs) .board) (step b (loads cs) .board)
+unfolding step
+loaded-alike b bs cs j i e q o = after-alike b b (boards-itself b) (load-alike bs cs j i e q o) .boards
+
+-- ONE CALL on two such boards
+pub step-alike : {b c : Board} (k : Call) → SoundBoard b → SoundBoard c → BoardsAlike b c → StepsAlike (step b k) (step c k)
+unfolding step refuse
+step-alike {b} {c} (loads bs) s t x = loaded b c x
+  where
+    loaded : (b c : Board) → BoardsAlike b c → StepsAlike (after b (load bs)) (after c (load bs))
+    loaded b c x = after-alike b c x (answer-itself (load bs))
+step-alike (turns u v) s t both-empty = record { one-reply = refl; boards = both-empty }
+step-alike (rectangle v) s t both-empty = record { one-reply = refl; boards = both-empty }
+step-alike (shares u v) s t both-empty = record { one-reply = refl; boards = both-empty }
+step-alike (writesJob buf) s t both-empty = record { one-reply = refl; boards = both-empty }
+step-alike (writesPlan buf) s t both-empty = record { one-reply = refl; boards = both-empty }
+step-alike (turns u v) s t (both-hold {j} {i} {p} o) =
+    after-alike (holding j p) (holding i p) (both-hold o) (turn-alike o p p s t u v)
+step-alike (rectangle v) s t (both-hold {j} {i} {p} o) =
+    asks-alike (holding j p) (holding i p) _ _ _ (vertex-same o v) (both-hold o)
+step-alike (shares u v) s t (both-hold {j} {i} {p} o) =
+    asks-alike (holding j p) (holding i p) _ _ _ (rw (vertex-same o u, vertex-same o v)) (both-hold o)
+step-alike (writesJob buf) s t (both-hold {j} {i} {p} o) =
+    writes-alike (holding j p) (holding i p) (writeJob j) (writeJob i) buf (written-same o) (both-hold o)
+step-alike (writesPlan buf) s t (both-hold {j} {i} {p} o) =
+    writes-alike (holding j p) (holding i p) (writePlan p) (writePlan p) buf refl (both-hold o)
+
+-- ANY CALLS on two such boards
+pub run-alike : (b c : Board) (ks : List Call) → SoundBoard b → SoundBoard c → BoardsAlike b c → BoardsAlike (run b ks) (run c ks)
+unfolding run
+run-alike b c [] s t x = x
+run-alike b c (k ∷ ks) s t x =
+    run-alike (step b k .board) (step c k .board) ks (step-sound b k s) (step-sound c k t) (step-alike k s t x .boards)
