@@ -34,7 +34,7 @@ computed a j ok f n =
     (l, e, fun-ext (λ s. unique (rules a j) f (at l) n (numbers-are a j (to-vertex j ok) l e) s))
 
 module _ (j : Job) (ok : Passes j) (p : Plan) where
-  -- a plan that the computed numbers give, past tests 8 and 9, is one that the text's numbers give
+  -- a plan that the computed numbers give, past test 9, is one that the text's numbers give
   pub drawn-numbered : Drawn j p → Numbered j p
   drawn-numbered d = record {
     xs = at (d .xs);
@@ -45,7 +45,7 @@ module _ (j : Job) (ok : Passes j) (p : Plan) where
     draws = d .draws;
   }
 
-  -- a plan that the text's numbers give, past tests 8 and 9, is one that the computed numbers give
+  -- a plan that the text's numbers give, past test 9, is one that the computed numbers give
   pub numbered-drawn : Numbered j p → Drawn j p
   numbered-drawn n =
       let (f, ef, qf) = computed upright j ok (n .xs) (n .are-upright) in

@@ -50,7 +50,7 @@ pub record Drawn (j : Job) (p : Plan) : Type 0 where
   pub is-plan : p ≡ planOf j (at xs) (at ys)
   pub draws : drawable j p ≡ true
 
--- what tests 8 and 9 let pass is the very job and plan, and both tests were passed
+-- what test 9 lets pass is the very job and plan, and the test was passed
 tested-held : (j : Job) (p : Plan) (i : Job) (q : Plan) → tested j p ≡ held i q → (i ≡ j) × (q ≡ p) × (drawable j p ≡ true)
 unfolding tested
 tested-held j p i q e = let (a, f) = past-held (drawable j p) 9 _ e in (same-job f, same-plan f, a)
@@ -61,7 +61,7 @@ tested-held j p i q e = let (a, f) = past-held (drawable j p) 9 _ e in (same-job
     same-plan : held j p ≡ held i q → q ≡ p
     same-plan e = cc
 
--- a plan that is held of a job is held with that job, by its computed numbers, past tests 8 and 9
+-- a plan that is held of a job is held with that job, by its computed numbers, past test 9
 pub drawn-held : (j i : Job) (p : Plan) → drawn j ≡ held i p → (i ≡ j) × Drawn j p
 unfolding drawn planned
 drawn-held j i p e = go (jobNumbers upright j) refl (jobNumbers level j) refl e
@@ -79,7 +79,7 @@ pub drawn-is : (j : Job) (f g : List ℕ) → jobNumbers upright j ≡ some f �
 unfolding drawn planned
 drawn-is j f g ef eg = rw (ef, eg)
 
--- what came from a job's numbers past tests 8 and 9 is held
+-- what came from a job's numbers past test 9 is held
 pub drawn-again : (j : Job) (p : Plan) → Drawn j p → drawn j ≡ held j p
 unfolding tested
 drawn-again j p d =
