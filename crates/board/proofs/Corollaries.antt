@@ -47,7 +47,7 @@ one-step s r t x y p q =
     let e : r .reply ≡ t .reply = sym (saying-back (r .reply)) ∙ ap saying (p .reply ∙ sym (q .reply)) ∙ saying-back (t .reply) in
     (same-step (r .board) (t .board) (r .reply) (t .reply) (p .board ∙ sym (q .board)) e, p .buffer ∙ sym (q .buffer))
 
--- THE PROMISE OF `plan_job` ALLOWS ONE ANSWER AND ONE BOARD
+-- one answer and one board make one job planned
 same-planned : (a c : Judged) (b d : HeldBoard) → a ≡ c → b ≡ d → _≡_ {A = Planned} (record { answer = a; board = b }) (record { answer = c; board = d })
 same-planned a c b d e f = rw (e, f)
 
@@ -59,7 +59,7 @@ same-judged Drawn (Undrawn k) j p x e f = not-held (f ∙ sym e)
 same-judged (Undrawn k) Drawn j p x e f = not-held (e ∙ sym f)
 same-judged (Undrawn k) (Undrawn l) j p x e f = let n : k ≡ l = one-number (e ∙ sym f) in cc
 
--- two jobs planned that tell of one answer are one, in what they answer and in the board
+-- THE PROMISE OF `plan_job` ALLOWS ONE ANSWER AND ONE BOARD
 pub one-planned : (x : Answer) (r t : Planned) → Plans r x → Plans t x → r ≡ t
 one-planned x r t p q =
     let e : r .board ≡ t .board = p .keeps ∙ sym (q .keeps) in

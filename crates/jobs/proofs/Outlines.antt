@@ -112,7 +112,7 @@ module _ (s : List ℕ) (n i at p : ℕ) (w : Option ℕ) where
       let z : p + 0 ≡ p = omega arith in
       rw (d, drop-of-length-le s k, z) at inv
 
--- stars that are read are the stars as they stand
+-- what is picked by a test is the job that was put in
 picked : (b : Bool) (i j : Job) → cond b (some i) none ≡ some j → i ≡ j
 picked true i j e = cc
 picked false i j e = absurd (let z : _≡_ {A = ℕ} 0 1 = cc in omega arith)

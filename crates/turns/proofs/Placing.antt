@@ -86,7 +86,7 @@ module _ (c : ℕ) (ends nbr kind : List ℕ) where
       unfolding swingFrom
       swing-from-second t s es p = rw (seen, t, ← es) p
 
--- THE CONTACT THAT TURNS is the one named, seen from the one room or the other
+-- a refusal is no contact that turns
 stops-not : {X : Type 0} {k a b t : ℕ} → stops k ≡ swings a b t → X
 stops-not {X} {k} {a} {b} {t} e = let z : _≡_ {A = ℕ} 0 1 = cc in absurd (omega arith)
 
