@@ -13,7 +13,8 @@ use crate::sheet::put;
 use crate::sheet::take;
 
 // A step between two walls that were left over: by it one may go back.
-pub fn note_step(sheet: &mut [u16], low: usize, i: usize, k: usize, high: usize) {
+pub fn note_step(sheet: &mut [u16], i: usize, k: usize, high: usize) {
+    let low = of_side(sheet, WALL, 2 * (4 + i % 65535));
     if 0 < get(sheet, NEED, low) {
         if 0 < get(sheet, NEED, high) {
             crate::step::lead(sheet, i, k, high);
@@ -68,11 +69,11 @@ pub fn circle<'a>(
     cross: u8,
     ends: &'a [u16],
     nbr: &'a [u16],
-    kind: &'a [u8],
+    parts: &'a [u16],
     count: usize,
 ) {
     if get(sheet, COUNT, READY) < get(sheet, COUNT, WALLS) {
-        crate::step::note_steps(sheet, cross, ends, nbr, kind, count);
+        crate::step::note_steps(sheet, cross, ends, nbr, parts, count);
         go_far_back(sheet);
         go_round(sheet);
     }

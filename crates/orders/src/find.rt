@@ -61,29 +61,26 @@ fn spread_room<'a>(
     sheet: &mut [u16],
     ends: &'a [u16],
     nbr: &'a [u16],
-    kind: &'a [u8],
+    parts: &'a [u16],
     i: usize,
     side: usize,
     want: u8,
 ) {
-    let from = start_of(ends, nbr.len(), i);
-    let end = end_of(ends, nbr.len(), i);
-    let first = part_start(sheet, kind, from, end, i, want);
-    let stop = part_end(sheet, kind, from, end, i, want);
+    let first = part_start(parts, i, want);
+    let stop = part_end(parts, i, want);
     if first < stop {
         spread_part(sheet, nbr, side, first, stop);
     } else {
-        spread_part(sheet, nbr, side, first, end);
-        spread_part(sheet, nbr, side, from, stop);
+        spread_part(sheet, nbr, side, first, end_of(ends, nbr.len(), i));
+        spread_part(sheet, nbr, side, start_of(ends, nbr.len(), i), stop);
     }
 }
 
 // From a frame side to a room, if the room's star has their contact: it is then alone in its part.
 fn along_frame<'a>(
     sheet: &mut [u16],
-    ends: &'a [u16],
     nbr: &'a [u16],
-    kind: &'a [u8],
+    parts: &'a [u16],
     i: usize,
     side: usize,
     want: u8,
@@ -91,9 +88,7 @@ fn along_frame<'a>(
     if sides(sheet) <= i {
         return;
     }
-    let from = start_of(ends, nbr.len(), i);
-    let end = end_of(ends, nbr.len(), i);
-    let k = part_start(sheet, kind, from, end, i, want);
+    let k = part_start(parts, i, want);
     if to_at(nbr, k) == side / 2 {
         reach(sheet, 2 * (4 + i) + 1 - side % 2, side, k);
     }
@@ -102,16 +97,15 @@ fn along_frame<'a>(
 // From a frame side along its contacts. They stand in the rooms' stars.
 fn spread_frame<'a>(
     sheet: &mut [u16],
-    ends: &'a [u16],
     nbr: &'a [u16],
-    kind: &'a [u8],
+    parts: &'a [u16],
     count: usize,
     side: usize,
     want: u8,
 ) {
     let mut i: usize = 0;
     while i < count {
-        along_frame(sheet, ends, nbr, kind, i, side, want);
+        along_frame(sheet, nbr, parts, i, side, want);
         i += 1;
     }
 }
@@ -123,16 +117,16 @@ fn spread<'a>(
     near: u8,
     ends: &'a [u16],
     nbr: &'a [u16],
-    kind: &'a [u8],
+    parts: &'a [u16],
     count: usize,
     side: usize,
 ) {
     if side < 8 {
         let want = if side % 2 == 0 { far } else { near };
-        spread_frame(sheet, ends, nbr, kind, count, side, want);
+        spread_frame(sheet, nbr, parts, count, side, want);
     } else {
         let want = if side % 2 == 0 { near } else { far };
-        spread_room(sheet, ends, nbr, kind, side / 2 - 4, side, want);
+        spread_room(sheet, ends, nbr, parts, side / 2 - 4, side, want);
     }
 }
 
@@ -143,7 +137,7 @@ fn grow<'a>(
     near: u8,
     ends: &'a [u16],
     nbr: &'a [u16],
-    kind: &'a [u8],
+    parts: &'a [u16],
     count: usize,
     first: usize,
 ) {
@@ -154,7 +148,7 @@ fn grow<'a>(
             return;
         }
         let side = of_side(sheet, SIDE, p);
-        spread(sheet, far, near, ends, nbr, kind, count, side);
+        spread(sheet, far, near, ends, nbr, parts, count, side);
         p += 1;
     }
 }
@@ -166,7 +160,7 @@ fn new_wall<'a>(
     near: u8,
     ends: &'a [u16],
     nbr: &'a [u16],
-    kind: &'a [u8],
+    parts: &'a [u16],
     count: usize,
     side: usize,
 ) {
@@ -175,7 +169,7 @@ fn new_wall<'a>(
     let first = get(sheet, COUNT, FOUND);
     put(sheet, START, wall, first);
     reach(sheet, side, side, NONE);
-    grow(sheet, far, near, ends, nbr, kind, count, first);
+    grow(sheet, far, near, ends, nbr, parts, count, first);
     let end = get(sheet, COUNT, FOUND);
     put(sheet, START, wall + 1, end);
 }
@@ -187,12 +181,12 @@ fn find_wall<'a>(
     near: u8,
     ends: &'a [u16],
     nbr: &'a [u16],
-    kind: &'a [u8],
+    parts: &'a [u16],
     count: usize,
     side: usize,
 ) {
     if of_side(sheet, WALL, side) == 0 {
-        new_wall(sheet, far, near, ends, nbr, kind, count, side);
+        new_wall(sheet, far, near, ends, nbr, parts, count, side);
     }
 }
 
@@ -203,7 +197,7 @@ fn find_rooms<'a>(
     near: u8,
     ends: &'a [u16],
     nbr: &'a [u16],
-    kind: &'a [u8],
+    parts: &'a [u16],
     count: usize,
 ) {
     let most = sides(sheet);
@@ -212,7 +206,7 @@ fn find_rooms<'a>(
         if count <= side / 2 - 4 {
             return;
         }
-        find_wall(sheet, far, near, ends, nbr, kind, count, side);
+        find_wall(sheet, far, near, ends, nbr, parts, count, side);
         side += 1;
     }
 }
@@ -224,7 +218,7 @@ pub fn find_walls<'a>(
     near: u8,
     ends: &'a [u16],
     nbr: &'a [u16],
-    kind: &'a [u8],
+    parts: &'a [u16],
     count: usize,
 ) {
     new_wall(
@@ -233,7 +227,7 @@ pub fn find_walls<'a>(
         near,
         ends,
         nbr,
-        kind,
+        parts,
         count,
         2 * fields::wide(far),
     );
@@ -243,9 +237,9 @@ pub fn find_walls<'a>(
         near,
         ends,
         nbr,
-        kind,
+        parts,
         count,
         2 * fields::wide(near) + 1,
     );
-    find_rooms(sheet, far, near, ends, nbr, kind, count);
+    find_rooms(sheet, far, near, ends, nbr, parts, count);
 }

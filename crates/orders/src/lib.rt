@@ -16,6 +16,17 @@ pub struct Span {
     pub again: usize,
 }
 
+// Where the entries of each kind start in every star, noted once for both directions: four places for each star.
+pub fn note_parts<'a>(
+    parts: &mut [u16],
+    ends: &'a [u16],
+    kind: &'a [u8],
+    most: usize,
+    count: usize,
+) {
+    parts::part_stars(parts, ends, kind, most, count);
+}
+
 // The walls found, on a sheet that is clear at first.
 fn find_all<'a>(
     sheet: &mut [u16],
@@ -24,12 +35,12 @@ fn find_all<'a>(
     cross: u8,
     ends: &'a [u16],
     nbr: &'a [u16],
-    kind: &'a [u8],
+    parts: &'a [u16],
     count: usize,
 ) {
     sheet::clear(sheet);
-    parts::part_stars(sheet, cross, ends, nbr, kind, count);
-    find::find_walls(sheet, far, near, ends, nbr, kind, count);
+    parts::count_steps(sheet, cross, ends, parts, nbr.len(), count);
+    find::find_walls(sheet, far, near, ends, nbr, parts, count);
 }
 
 // The walls put in order. The answer is how many of them come before those of the circle.
@@ -38,18 +49,18 @@ fn arrange<'a>(
     cross: u8,
     ends: &'a [u16],
     nbr: &'a [u16],
-    kind: &'a [u8],
+    parts: &'a [u16],
     count: usize,
 ) -> usize {
-    step::take_walls(sheet, cross, ends, nbr, kind);
+    step::take_walls(sheet, cross, ends, nbr, parts);
     let before = sheet::get(sheet, sheet::COUNT, sheet::READY);
-    circle::circle(sheet, cross, ends, nbr, kind, count);
+    circle::circle(sheet, cross, ends, nbr, parts, count);
     before
 }
 
 // The order of one direction, whose contacts of the kinds far and near join walls and of the kind cross order them: at most one visit for each side.
 // A visit is two numbers: that of a star, and the place of an entry in it, whose rules are to be run; or 65535 for the room's own rule.
-// The sheet is lent to work on, eight numbers for each side.
+// The parts of the stars are noted before. The sheet is lent to work on, eight numbers for each side.
 pub fn order_of<'a>(
     far: u8,
     near: u8,
@@ -58,13 +69,14 @@ pub fn order_of<'a>(
     nbr: &'a [u16],
     kind: &'a [u8],
     count: usize,
+    parts: &'a [u16],
     sheet: &mut [u16],
     visits: &mut [u16],
 ) -> Span
     ensures { λ r. ⌜ (r .again ≤ r .many) × (r .many ≤ length (now (visits .entry))) ⌝ }
 {
-    find_all(sheet, far, near, cross, ends, nbr, kind, count);
-    let before = arrange(sheet, cross, ends, nbr, kind, count);
+    find_all(sheet, far, near, cross, ends, nbr, parts, count);
+    let before = arrange(sheet, cross, ends, nbr, parts, count);
     let again = visits::visit_walls(visits, sheet, cross, ends, nbr, kind, 0, before, 0);
     let ready = sheet::get(sheet, sheet::COUNT, sheet::READY);
     let many = visits::visit_walls(visits, sheet, cross, ends, nbr, kind, before, ready, again);

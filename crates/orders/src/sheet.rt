@@ -33,20 +33,11 @@ pub const AT: usize = 12;
 // In a circle, the wall that follows.
 pub const ONWARD: usize = 13;
 
-// By vertex. Where the entries of kind 1 start in its star.
-pub const FIRST: usize = 14;
+// By vertex. How many steps lead to its high side; to a frame side none.
+pub const STEPS: usize = 14;
 
-// Where those of kind 2 start. Nobody asks once a circle is gone round.
-pub const MIDDLE: usize = ONWARD;
-
-// Where those of kind 3 start.
-pub const LAST: usize = 15;
-
-// How many steps lead to its high side. Nobody asks once all walls are found, and none is taken before.
-pub const STEPS: usize = TAKEN;
-
-// The frame has no stars: the counts stand in its rows.
-pub const COUNT: usize = FIRST;
+// The counts: a column of their own, in its first rows.
+pub const COUNT: usize = 15;
 
 // Among the counts: the sides found.
 pub const FOUND: usize = 0;

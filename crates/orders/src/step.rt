@@ -18,6 +18,7 @@ use crate::sheet::put;
 use crate::sheet::sides;
 use crate::sheet::take;
 use stars::held::end_of;
+use stars::held::place_after;
 use stars::held::start_of;
 use stars::held::to_at;
 
@@ -46,60 +47,53 @@ fn take_step(sheet: &mut [u16], i: usize, k: usize, high: usize) {
     }
 }
 
-// What is to be done with a step from one wall to another.
-fn step(sheet: &mut [u16], low: usize, i: usize, k: usize, high: usize, deed: Deed) {
+// What is to be done with a step from a room's low wall to another.
+fn step(sheet: &mut [u16], i: usize, k: usize, high: usize, deed: Deed) {
     match deed {
         Deed::Take => take_step(sheet, i, k, high),
-        Deed::Note => crate::circle::note_step(sheet, low, i, k, high),
+        Deed::Note => crate::circle::note_step(sheet, i, k, high),
     }
 }
 
-// The step of the contact at a place, if it leads to a room.
-fn step_at<'a>(sheet: &mut [u16], nbr: &'a [u16], low: usize, i: usize, k: usize, deed: Deed) {
+// A room's own step.
+fn own_step(sheet: &mut [u16], i: usize, deed: Deed) {
+    let high = of_side(sheet, WALL, 2 * (4 + i % 65535) + 1);
+    step(sheet, i, NONE, high, deed);
+}
+
+// The step of the contact at a place: to the room there, and at the frame the room's own once more.
+fn step_at<'a>(sheet: &mut [u16], nbr: &'a [u16], i: usize, k: usize, deed: Deed) {
     let v = to_at(nbr, k);
-    if 4 <= v {
+    if v < 4 {
+        own_step(sheet, i, deed);
+    } else {
         let high = of_side(sheet, WALL, 2 * v + 1);
-        step(sheet, low, i, k, high, deed);
+        step(sheet, i, k, high, deed);
     }
 }
 
-// The steps of a room's contacts from a place to an end.
-fn steps_part<'a>(
-    sheet: &mut [u16],
-    nbr: &'a [u16],
-    low: usize,
-    i: usize,
-    first: usize,
-    end: usize,
-    deed: Deed,
-) {
-    let mut k = first;
-    while k < end {
-        step_at(sheet, nbr, low, i, k, deed);
-        k += 1;
-    }
-}
-
-// The steps of a room's contacts of one kind: where they go over the star's end, those behind its start too.
+// The steps of a room's contacts of one kind, once round its star from where they start.
 fn steps_of<'a>(
     sheet: &mut [u16],
     ends: &'a [u16],
     nbr: &'a [u16],
-    kind: &'a [u8],
-    low: usize,
+    parts: &'a [u16],
     i: usize,
     want: u8,
     deed: Deed,
 ) {
     let from = start_of(ends, nbr.len(), i);
     let end = end_of(ends, nbr.len(), i);
-    let first = part_start(sheet, kind, from, end, i, want);
-    let stop = part_end(sheet, kind, from, end, i, want);
-    if first < stop {
-        steps_part(sheet, nbr, low, i, first, stop, deed);
-    } else {
-        steps_part(sheet, nbr, low, i, first, end, deed);
-        steps_part(sheet, nbr, low, i, from, stop, deed);
+    let stop = part_end(parts, i, want);
+    let mut k = part_start(parts, i, want);
+    let mut n = from;
+    while n < end {
+        step_at(sheet, nbr, i, k, deed);
+        k = place_after(from, end, k);
+        if k == stop {
+            return;
+        }
+        n += 1;
     }
 }
 
@@ -109,18 +103,13 @@ fn from_room<'a>(
     cross: u8,
     ends: &'a [u16],
     nbr: &'a [u16],
-    kind: &'a [u8],
+    parts: &'a [u16],
     i: usize,
     deed: Deed,
 ) {
-    if sides(sheet) <= i {
-        return;
-    }
-    let low = of_side(sheet, WALL, 2 * (4 + i));
-    let high = of_side(sheet, WALL, 2 * (4 + i) + 1);
-    step(sheet, low, i, NONE, high, deed);
-    steps_of(sheet, ends, nbr, kind, low, i, cross, deed);
-    steps_of(sheet, ends, nbr, kind, low, i, (cross % 4 + 2) % 4, deed);
+    own_step(sheet, i, deed);
+    steps_of(sheet, ends, nbr, parts, i, cross, deed);
+    steps_of(sheet, ends, nbr, parts, i, cross % 4 + 2, deed);
 }
 
 // The steps from every room's low side noted, where they lie between walls left over.
@@ -129,12 +118,12 @@ pub fn note_steps<'a>(
     cross: u8,
     ends: &'a [u16],
     nbr: &'a [u16],
-    kind: &'a [u8],
+    parts: &'a [u16],
     count: usize,
 ) {
     let mut i: usize = 0;
     while i < count {
-        from_room(sheet, cross, ends, nbr, kind, i, Deed::Note);
+        from_room(sheet, cross, ends, nbr, parts, i, Deed::Note);
         i += 1;
     }
 }
@@ -145,12 +134,12 @@ fn take_side<'a>(
     cross: u8,
     ends: &'a [u16],
     nbr: &'a [u16],
-    kind: &'a [u8],
+    parts: &'a [u16],
     side: usize,
 ) {
     if side % 2 == 0 {
         if 8 <= side {
-            from_room(sheet, cross, ends, nbr, kind, side / 2 - 4, Deed::Take);
+            from_room(sheet, cross, ends, nbr, parts, side / 2 - 4, Deed::Take);
         }
     }
 }
@@ -161,7 +150,7 @@ fn take_wall<'a>(
     cross: u8,
     ends: &'a [u16],
     nbr: &'a [u16],
-    kind: &'a [u8],
+    parts: &'a [u16],
     wall: usize,
 ) {
     if sides(sheet) <= wall {
@@ -171,7 +160,7 @@ fn take_wall<'a>(
     let mut p = get(sheet, START, wall);
     while p < end {
         let side = of_side(sheet, SIDE, p);
-        take_side(sheet, cross, ends, nbr, kind, side);
+        take_side(sheet, cross, ends, nbr, parts, side);
         p += 1;
     }
 }
@@ -199,7 +188,7 @@ pub fn take_walls<'a>(
     cross: u8,
     ends: &'a [u16],
     nbr: &'a [u16],
-    kind: &'a [u8],
+    parts: &'a [u16],
 ) {
     take_firsts(sheet);
     let most = sides(sheet);
@@ -209,7 +198,7 @@ pub fn take_walls<'a>(
             return;
         }
         let wall = get(sheet, TAKEN, p);
-        take_wall(sheet, cross, ends, nbr, kind, wall);
+        take_wall(sheet, cross, ends, nbr, parts, wall);
         p += 1;
     }
 }

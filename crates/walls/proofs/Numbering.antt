@@ -12,7 +12,7 @@ use lib.Seq.{length-take-le}
 use Rattle.floor.specs.Lists.{all}
 use Rattle.floor.specs.Lists.Laws.{same-test, and-left, and-right}
 use Rattle.floor.specs.Jobs.{Entry, Job, isVertex, test2}
-use Rattle.floor.specs.Walls.{Rule, Axis, high, rules, jobNumbers}
+use Rattle.floor.specs.Walls.{Rule, Axis, upright, level, high, rules, jobNumbers}
 use Rattle.floor.specs.Walls.Relax.{Right, right-unique}
 use Rattle.floor.specs.Walls.Rules.{jobNumbers-right}
 use Rattle.stars.specs.Held.{jobIn}
@@ -58,11 +58,14 @@ module _ (ends nbr kind : List ℕ) (n : ℕ) where
   abbrev good : Bool
   good = test2 (length job) && vertices job
 
-  -- a job that cannot be numbered has no numbers, and noughts are held
-  pub held-none : (b : Bool) (a : Axis) (l : List ℕ) → b ≡ good → not b ≡ true → l ≡ replicate 128 0
-      → record { found = false; list = l } ≡ numbersHeld (numbersIn a job)
-  unfolding numbersHeld numbersIn
-  held-none b a l q f e = let g : good ≡ false = sym q ∙ not-true b f in rw (g, e)
+  -- a job that cannot be numbered has no walls with numbers
+  pub none-good : (b : Bool) (w : Walls) → b ≡ good → not b ≡ true → w ≡ noWalls → w ≡ wallsFrom (numbersIn upright job) (numbersIn level job)
+  unfolding wallsFrom numbersIn
+  none-good b w q f e = let g : good ≡ false = sym q ∙ not-true b f in rw g e
+
+  -- one that was asked can be numbered
+  pub is-good : (b : Bool) → b ≡ good → not b ≡ false → good ≡ true
+  is-good b q f = sym q ∙ not-false b f
 
   -- the job has as many rooms as stars are held
   held-rooms : length job ≡ n
@@ -84,11 +87,7 @@ module _ (ends nbr kind : List ℕ) (n : ℕ) where
   some-rooms r x y q =
       rw (vertices-named job, held-rooms, le-leb 1 n (omega arith), le-leb n 60 y) q
 
-  module _ (b : Bool) (q : b ≡ good) (no : not b ≡ false) where
-    -- the job can be numbered
-    both-good : good ≡ true
-    both-good = sym q ∙ not-false b no
-
+  module _ (both-good : good ≡ true) where
     -- it has at most 60 rooms
     pub rooms-fit : n ≤ 60
     unfolding test2

@@ -103,33 +103,30 @@ fn number_front<'a>(
     nbr: &'a [u16],
     kind: &'a [u8],
     count: usize,
+    parts: &'a [u16],
 ) -> bool
     requires { ⌜ (count < 65535) × (2 * (count + 4) ≤ length (now list)) × (named (2 * (count + 4)) (jobIn count (now ends) (now nbr) (now kind)) ≡ true) ⌝ }
     ensures { λ r. ⌜ Fronts r (rules (axisOf way) (jobIn count (now (ends .entry)) (now (nbr .entry)) (now (kind .entry))))
         (2 * (count + 4)) (now (list .entry)) (now (list .exit)) ⌝ }
 {
     let sides = 2 * (count + 4);
-    number::number(&mut list[..sides], way, ends, nbr, kind, count)
+    number::number(&mut list[..sides], way, ends, nbr, kind, count, parts)
 }
 
-// The numbers in one direction.
+// The numbers in one direction, of a job that can be numbered.
 fn numbers_in<'a>(
     ends: &'a [u16],
     nbr: &'a [u16],
     kind: &'a [u8],
     count: usize,
+    parts: &'a [u16],
     way: Direction,
 ) -> Numbers
+    requires { ⌜ (test2 (length (jobIn count (now ends) (now nbr) (now kind))) && vertices (jobIn count (now ends) (now nbr) (now kind))) ≡ true ⌝ }
     ensures { λ r. ⌜ r ≡ numbersHeld (numbersIn (axisOf way) (jobIn count (now (ends .entry)) (now (nbr .entry)) (now (kind .entry)))) ⌝ }
 {
     let mut list = noughts();
-    if !can_number(ends, nbr, kind, count) {
-        return Numbers {
-            found: false,
-            list: list,
-        };
-    }
-    let found = number_front(&mut list, way, ends, nbr, kind, count);
+    let found = number_front(&mut list, way, ends, nbr, kind, count, parts);
     Numbers {
         found: found,
         list: list,
@@ -152,11 +149,16 @@ fn no_walls() -> Walls
 pub fn walls_of<'a>(ends: &'a [u16], nbr: &'a [u16], kind: &'a [u8], count: usize) -> Walls
     ensures { λ r. ⌜ r ≡ wallsOf (jobIn count (now (ends .entry)) (now (nbr .entry)) (now (kind .entry))) ⌝ }
 {
-    let upright = numbers_in(ends, nbr, kind, count, Direction::Upright);
+    if !can_number(ends, nbr, kind, count) {
+        return no_walls();
+    }
+    let mut parts = [0u16; 256];
+    orders::note_parts(&mut parts, ends, kind, nbr.len(), count);
+    let upright = numbers_in(ends, nbr, kind, count, &parts, Direction::Upright);
     if !upright.found {
         return no_walls();
     }
-    let level = numbers_in(ends, nbr, kind, count, Direction::Level);
+    let level = numbers_in(ends, nbr, kind, count, &parts, Direction::Level);
     if !level.found {
         return no_walls();
     }

@@ -224,6 +224,7 @@ fn order_for<'a>(
     nbr: &'a [u16],
     kind: &'a [u8],
     count: usize,
+    parts: &'a [u16],
     sheet: &mut [u16],
     visits: &mut [u16],
 ) -> orders::Span
@@ -232,7 +233,18 @@ fn order_for<'a>(
     let far = crate::rules::far_of(way);
     let near = crate::rules::near_of(way);
     let cross = crate::rules::cross_of(way);
-    orders::order_of(far, near, cross, ends, nbr, kind, count, sheet, visits)
+    orders::order_of(
+        far,
+        near,
+        cross,
+        ends,
+        nbr,
+        kind,
+        count,
+        parts,
+        sheet,
+        visits,
+    )
 }
 
 // The visits of a good order.
@@ -243,6 +255,7 @@ fn climb_all<'a>(
     nbr: &'a [u16],
     kind: &'a [u8],
     count: usize,
+    parts: &'a [u16],
     top: u16,
 ) -> Step
     requires { ⌜ (count < 65535) × (length (now f) ≡ 2 * (count + 4)) × (named (length (now f)) (jobIn count (now ends) (now nbr) (now kind)) ≡ true) ⌝ }
@@ -251,7 +264,7 @@ fn climb_all<'a>(
 {
     let mut sheet = [0u16; 1024];
     let mut visits = [0u16; 256];
-    let span = order_for(way, ends, nbr, kind, count, &mut sheet, &mut visits);
+    let span = order_for(way, ends, nbr, kind, count, parts, &mut sheet, &mut visits);
     let many = span.many;
     let again = span.again;
     climb_both(f, way, ends, nbr, kind, count, &visits, again, many, top)
@@ -265,6 +278,7 @@ pub fn number<'a>(
     nbr: &'a [u16],
     kind: &'a [u8],
     count: usize,
+    parts: &'a [u16],
 ) -> bool
     requires { ⌜ (count < 65535) × (length (now f) ≡ 2 * (count + 4)) × (named (length (now f)) (jobIn count (now ends) (now nbr) (now kind)) ≡ true) ⌝ }
     ensures { λ r. ⌜ Answers r (rules (axisOf way) (jobIn count (now (ends .entry)) (now (nbr .entry)) (now (kind .entry))))
@@ -272,7 +286,7 @@ pub fn number<'a>(
 {
     let top = (count + 1) as u16;
     fill(f, 1);
-    let did = climb_all(f, way, ends, nbr, kind, count, top);
+    let did = climb_all(f, way, ends, nbr, kind, count, parts, top);
     if crate::steps::is_over(did) {
         fill(f, 0);
         return false;

@@ -1,16 +1,10 @@
-use Rattle.walls.proofs.Numbering.{held-none, rooms-few, rooms-hold, all-vertices, held-numbers}
+use Rattle.walls.proofs.Numbering.{rooms-few, rooms-hold, all-vertices, held-numbers}
 use borrow.Author.Needs.{needs}
 use Rattle.walls.proofs.numbers_in.Statement.{statement}
 use Rattle.walls.proofs.numbers_in.Tie as tie
 
 noughts-requires : tie.Need-noughts-requires
 noughts-requires c κs = search needs
-
-can-number-requires : tie.Need-can-number-requires
-can-number-requires c κs = search needs
-
-returns : tie.Need-returns
-returns c = search (held-none, needs)
 
 slice-aggregate-number-front : tie.Need-slice-aggregate-number-front
 slice-aggregate-number-front c = search needs
@@ -19,16 +13,10 @@ number-front-requires : tie.Need-number-front-requires
 number-front-requires c κs =
     (search (rooms-few, needs), search (rooms-hold, needs), search (all-vertices, needs))
 
-returns-2 : tie.Need-returns-2
-returns-2 c = search (held-numbers, needs)
+returns : tie.Need-returns
+returns c = search (held-numbers, needs)
 
 pub numbers-in-spec : {M : Type 1} → statement M
 numbers-in-spec =
     tie.close
-    (tie.spec
-    noughts-requires
-    can-number-requires
-    returns
-    slice-aggregate-number-front
-    number-front-requires
-    returns-2)
+    (tie.spec noughts-requires slice-aggregate-number-front number-front-requires returns)

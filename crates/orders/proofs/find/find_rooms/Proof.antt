@@ -6,10 +6,10 @@ use Rattle.orders.proofs.find.find_rooms.Statement.{statement}
 use Rattle.orders.proofs.find.find_rooms.Tie as tie
 
 abbrev Inv-loop : tie.InvT-loop
-Inv-loop sheet₀ far near ends nbr kind count most side₀ sheet side = (8 ≤ side) × (length sheet ≡ length sheet₀)
+Inv-loop sheet₀ far near ends nbr parts count most side₀ sheet side = (8 ≤ side) × (length sheet ≡ length sheet₀)
 
 abbrev μ-loop : tie.MeasureT-loop
-μ-loop sheet₀ far near ends nbr kind count most side₀ sheet side = most - side
+μ-loop sheet₀ far near ends nbr parts count most side₀ sheet side = most - side
 
 sides-requires : tie.Need-sides-requires Inv-loop μ-loop
 sides-requires c κs = search needs

@@ -6,10 +6,10 @@ use Rattle.orders.proofs.find.grow.Statement.{statement}
 use Rattle.orders.proofs.find.grow.Tie as tie
 
 abbrev Inv-loop : tie.InvT-loop
-Inv-loop sheet₀ far near ends nbr kind count first most p₀ sheet p = length sheet ≡ length sheet₀
+Inv-loop sheet₀ far near ends nbr parts count first most p₀ sheet p = length sheet ≡ length sheet₀
 
 abbrev μ-loop : tie.MeasureT-loop
-μ-loop sheet₀ far near ends nbr kind count first most p₀ sheet p = most - p
+μ-loop sheet₀ far near ends nbr parts count first most p₀ sheet p = most - p
 
 sides-requires : tie.Need-sides-requires Inv-loop μ-loop
 sides-requires c κs = search needs

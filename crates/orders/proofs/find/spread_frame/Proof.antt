@@ -6,10 +6,10 @@ use Rattle.orders.proofs.find.spread_frame.Statement.{statement}
 use Rattle.orders.proofs.find.spread_frame.Tie as tie
 
 abbrev Inv-loop : tie.InvT-loop
-Inv-loop sheet₀ ends nbr kind count side want i₀ sheet i = length sheet ≡ length sheet₀
+Inv-loop sheet₀ nbr parts count side want i₀ sheet i = length sheet ≡ length sheet₀
 
 abbrev μ-loop : tie.MeasureT-loop
-μ-loop sheet₀ ends nbr kind count side want i₀ sheet i = count - i
+μ-loop sheet₀ nbr parts count side want i₀ sheet i = count - i
 
 loop-holds : tie.Need-loop-holds Inv-loop μ-loop
 loop-holds c = search needs

@@ -6,13 +6,19 @@ use Rattle.orders.proofs.parts.part_stars.Statement.{statement}
 use Rattle.orders.proofs.parts.part_stars.Tie as tie
 
 abbrev Inv-loop : tie.InvT-loop
-Inv-loop sheet₀ cross ends nbr kind count i₀ sheet i = length sheet ≡ length sheet₀
+Inv-loop parts₀ ends kind most count i₀ parts i = length parts ≡ length parts₀
 
 abbrev μ-loop : tie.MeasureT-loop
-μ-loop sheet₀ cross ends nbr kind count i₀ sheet i = count - i
+μ-loop parts₀ ends kind most count i₀ parts i = count - i
 
 loop-holds : tie.Need-loop-holds Inv-loop μ-loop
 loop-holds c = search needs
+
+start-of-requires : tie.Need-start-of-requires Inv-loop μ-loop
+start-of-requires c κs = search needs
+
+end-of-requires : tie.Need-end-of-requires Inv-loop μ-loop
+end-of-requires c κs = search needs
 
 part-star-requires : tie.Need-part-star-requires Inv-loop μ-loop
 part-star-requires c κs = search needs
@@ -39,6 +45,8 @@ part-stars-spec =
     Inv-loop
     μ-loop
     loop-holds
+    start-of-requires
+    end-of-requires
     part-star-requires
     add-i
     loop-less

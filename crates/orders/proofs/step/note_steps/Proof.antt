@@ -6,10 +6,10 @@ use Rattle.orders.proofs.step.note_steps.Statement.{statement}
 use Rattle.orders.proofs.step.note_steps.Tie as tie
 
 abbrev Inv-loop : tie.InvT-loop
-Inv-loop sheet₀ cross ends nbr kind count i₀ sheet i = length sheet ≡ length sheet₀
+Inv-loop sheet₀ cross ends nbr parts count i₀ sheet i = length sheet ≡ length sheet₀
 
 abbrev μ-loop : tie.MeasureT-loop
-μ-loop sheet₀ cross ends nbr kind count i₀ sheet i = count - i
+μ-loop sheet₀ cross ends nbr parts count i₀ sheet i = count - i
 
 loop-holds : tie.Need-loop-holds Inv-loop μ-loop
 loop-holds c = search needs

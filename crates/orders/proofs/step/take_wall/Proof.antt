@@ -6,10 +6,10 @@ use Rattle.orders.proofs.step.take_wall.Statement.{statement}
 use Rattle.orders.proofs.step.take_wall.Tie as tie
 
 abbrev Inv-loop : tie.InvT-loop
-Inv-loop sheet₀ cross ends nbr kind wall end p₀ sheet p = length sheet ≡ length sheet₀
+Inv-loop sheet₀ cross ends nbr parts wall end p₀ sheet p = length sheet ≡ length sheet₀
 
 abbrev μ-loop : tie.MeasureT-loop
-μ-loop sheet₀ cross ends nbr kind wall end p₀ sheet p = end - p
+μ-loop sheet₀ cross ends nbr parts wall end p₀ sheet p = end - p
 
 sides-requires : tie.Need-sides-requires Inv-loop μ-loop
 sides-requires c κs = search needs

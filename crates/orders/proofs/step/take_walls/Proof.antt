@@ -6,10 +6,10 @@ use Rattle.orders.proofs.step.take_walls.Statement.{statement}
 use Rattle.orders.proofs.step.take_walls.Tie as tie
 
 abbrev Inv-loop : tie.InvT-loop
-Inv-loop sheet₀ cross ends nbr kind most p₀ sheet p = length sheet ≡ length sheet₀
+Inv-loop sheet₀ cross ends nbr parts most p₀ sheet p = length sheet ≡ length sheet₀
 
 abbrev μ-loop : tie.MeasureT-loop
-μ-loop sheet₀ cross ends nbr kind most p₀ sheet p = most - p
+μ-loop sheet₀ cross ends nbr parts most p₀ sheet p = most - p
 
 take-firsts-requires : tie.Need-take-firsts-requires Inv-loop μ-loop
 take-firsts-requires c κs = search needs

@@ -40,7 +40,7 @@ returns c =
     let over = c .before .before .before .before .before in
     let all = over .before .before .before in
     let ones = all .before .before .before .before in
-    let s = ones .before .before .before .before .before .before in
+    let s = ones .before .before .before .before .before .before .before in
     let o : isOver (all .climb-all .result) ≡ true = sym (over .is-over .ensures) ∙ c .before .before .before .before .if1 .taken in
     let q : length (all .climb-all .last .0) ≡ length (s .args .f .now) = search needs in
     let E = rules (axisOf (s .args .way)) (jobIn (s .args .count) (s .args .ends .now) (s .args .nbr .now) (s .args .kind .now)) in
@@ -54,7 +54,7 @@ settle-requires c κs =
     let over = c .before .before in
     let all = over .before .before .before in
     let ones = all .before .before .before .before in
-    let s = ones .before .before .before .before .before .before in
+    let s = ones .before .before .before .before .before .before .before in
     let E = rules (axisOf (s .args .way)) (jobIn (s .args .count) (s .args .ends .now) (s .args .nbr .now) (s .args .kind .now)) in
     let no : isOver (all .climb-all .result) ≡ false = sym (over .is-over .ensures) ∙ c .before .if1 .left in
     let q : length (all .climb-all .last .0) ≡ length (s .args .f .now) = search needs in (
@@ -76,7 +76,7 @@ returns-2 : tie.Need-returns-2
 returns-2 c =
     let settled = c .before .before in
     let all = settled .before .before .before .before .before .before in
-    let s = all .before .before .before .before .before .before .before .before .before .before in
+    let s = all .before .before .before .before .before .before .before .before .before .before .before in
     let q : length (all .climb-all .last .0) ≡ length (s .args .f .now) = search needs in
     let E = rules (axisOf (s .args .way)) (jobIn (s .args .count) (s .args .ends .now) (s .args .nbr .now) (s .args .kind .now)) in
     answers-same E (settled .settle .result) (settled .settle .last .0) (length (all .climb-all .last .0)) (length (s .args .f .now)) q

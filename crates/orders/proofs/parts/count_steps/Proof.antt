@@ -2,23 +2,23 @@ use lib.ListN.{length}
 use mathlib.Core.Path.{_≡_}
 use Prim.Native.Nat.{_-_}
 use borrow.Author.Needs.{needs}
-use Rattle.orders.proofs.step.steps_part.Statement.{statement}
-use Rattle.orders.proofs.step.steps_part.Tie as tie
+use Rattle.orders.proofs.parts.count_steps.Statement.{statement}
+use Rattle.orders.proofs.parts.count_steps.Tie as tie
 
 abbrev Inv-loop : tie.InvT-loop
-Inv-loop sheet₀ nbr low i first end deed k₀ sheet k = length sheet ≡ length sheet₀
+Inv-loop sheet₀ cross ends parts most count i₀ sheet i = length sheet ≡ length sheet₀
 
 abbrev μ-loop : tie.MeasureT-loop
-μ-loop sheet₀ nbr low i first end deed k₀ sheet k = end - k
+μ-loop sheet₀ cross ends parts most count i₀ sheet i = count - i
 
 loop-holds : tie.Need-loop-holds Inv-loop μ-loop
 loop-holds c = search needs
 
-step-at-requires : tie.Need-step-at-requires Inv-loop μ-loop
-step-at-requires c κs = search needs
+count-room-requires : tie.Need-count-room-requires Inv-loop μ-loop
+count-room-requires c κs = search needs
 
-add-k : tie.Need-add-k Inv-loop μ-loop
-add-k c = search needs
+add-i : tie.Need-add-i Inv-loop μ-loop
+add-i c = search needs
 
 loop-less : tie.Need-loop-less Inv-loop μ-loop
 loop-less c = search needs
@@ -32,15 +32,15 @@ same-length c = search needs
 returns : tie.Need-returns Inv-loop μ-loop
 returns c = search needs
 
-pub steps-part-spec : {M : Type 1} → statement M
-steps-part-spec =
+pub count-steps-spec : {M : Type 1} → statement M
+count-steps-spec =
     tie.close
     (tie.spec
     Inv-loop
     μ-loop
     loop-holds
-    step-at-requires
-    add-k
+    count-room-requires
+    add-i
     loop-less
     loop-again
     same-length
