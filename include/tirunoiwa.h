@@ -11,7 +11,9 @@
  *    5  not a star                          13  no such vertex
  *    6  a contact that one room lacks       14  the buffer is too short
  * 8 is not used.
- * From 256 on it is 256 plus a value: the number of bytes written, or 1 for yes and 0 for no.
+ * From 256 on it is 256 plus a value: the number of bytes written, or how two vertices touch.
+ *
+ * tirunoiwa_share, which told yes or no, is gone; tirunoiwa_touch stands in its place, and tells no wall exactly where it told no.
  *
  * Bytes of `out` behind those that were written stay as they were.
  *
@@ -44,8 +46,11 @@ size_t tirunoiwa_turned(const uint8_t *job, size_t job_length, size_t u, size_t 
  */
 size_t tirunoiwa_star(const uint8_t *job, size_t job_length, size_t room, uint8_t *out, size_t out_length);
 
-/* Reads a job; whether vertices u and v share a wall length of at least 1. Answers 257 for yes, 256 for no, or 1 to 7, 9, 13. */
-size_t tirunoiwa_share(const uint8_t *job, size_t job_length, size_t u, size_t v);
+/*
+ * Reads a job; how vertices u and v touch. Answers 256 for no wall between them, or u and v one vertex; else 256 + 4 * the length of wall they share + the side
+ * on which v stands, seen from u: 0 above, 1 to the left, 2 below, 3 to the right; or 1 to 7, 9, 13. The length is at least 1.
+ */
+size_t tirunoiwa_touch(const uint8_t *job, size_t job_length, size_t u, size_t v);
 
 /* The number of the refusal, or 0 where the answer is none. */
 static inline unsigned tirunoiwa_refused(size_t answer)
@@ -57,6 +62,18 @@ static inline unsigned tirunoiwa_refused(size_t answer)
 static inline size_t tirunoiwa_value(size_t answer)
 {
     return answer - 256;
+}
+
+/* The side on which v stands, of an answer of tirunoiwa_touch that is a wall. */
+static inline unsigned tirunoiwa_side(size_t answer)
+{
+    return (unsigned)(tirunoiwa_value(answer) % 4);
+}
+
+/* The length of wall that is shared, of an answer of tirunoiwa_touch that is no refusal; 0 where there is no wall. */
+static inline size_t tirunoiwa_length(size_t answer)
+{
+    return tirunoiwa_value(answer) / 4;
 }
 
 #ifdef __cplusplus

@@ -114,10 +114,18 @@ static void refused(const char *what, size_t answer, unsigned number)
     }
 }
 
-static void says(const char *what, size_t answer, size_t yes)
+static void clear(const char *what, size_t answer)
 {
     calls++;
-    if (tirunoiwa_refused(answer) != 0 || tirunoiwa_value(answer) != yes) {
+    if (answer != 256 || tirunoiwa_refused(answer) != 0 || tirunoiwa_length(answer) != 0) {
+        complain(what, "not the answer", answer);
+    }
+}
+
+static void walled(const char *what, size_t answer, unsigned side, size_t length)
+{
+    calls++;
+    if (answer != 256 + 4 * length + side || tirunoiwa_side(answer) != side || tirunoiwa_length(answer) != length) {
         complain(what, "not the answer", answer);
     }
 }
@@ -197,17 +205,22 @@ static void stars(void)
     wrote("star in P2", tirunoiwa_star(P2, SIZE(P2), 4, lend(), MOST), NULL, 0);
 }
 
-static void shares(void)
+static void touches(void)
 {
-    says("5 and 6 of F share", tirunoiwa_share(F, SIZE(F), 5, 6), 1);
-    says("N and W share", tirunoiwa_share(F, SIZE(F), 0, 1), 1);
-    says("4 and 7 of F do not", tirunoiwa_share(F, SIZE(F), 4, 7), 0);
-    says("one vertex does not", tirunoiwa_share(F, SIZE(F), 5, 5), 0);
+    walled("6 to the left of 5 in F", tirunoiwa_touch(F, SIZE(F), 5, 6), 1, 1);
+    walled("5 to the right of 6", tirunoiwa_touch(F, SIZE(F), 6, 5), 3, 1);
+    walled("W to the left of 6, two cells", tirunoiwa_touch(F, SIZE(F), 6, 1), 1, 2);
+    walled("5 below N", tirunoiwa_touch(F, SIZE(F), 0, 5), 2, 1);
+    walled("N above 5", tirunoiwa_touch(F, SIZE(F), 5, 0), 0, 1);
+    walled("W to the left of N", tirunoiwa_touch(F, SIZE(F), 0, 1), 1, 1);
+    clear("4 and 7 of F", tirunoiwa_touch(F, SIZE(F), 4, 7));
+    clear("N and S", tirunoiwa_touch(F, SIZE(F), 0, 2));
+    clear("one vertex", tirunoiwa_touch(F, SIZE(F), 5, 5));
     lend();
-    refused("no such vertex", tirunoiwa_share(F, SIZE(F), 5, 8), 13);
-    refused("no such vertex, twice", tirunoiwa_share(F, SIZE(F), SIZE_MAX, SIZE_MAX), 13);
-    refused("shared in no job", tirunoiwa_share(P3, 0, 5, 6), 1);
-    refused("shared in P10", tirunoiwa_share(P10, SIZE(P10), 5, 8), 9);
+    refused("no such vertex", tirunoiwa_touch(F, SIZE(F), 5, 8), 13);
+    refused("no such vertex, twice", tirunoiwa_touch(F, SIZE(F), SIZE_MAX, SIZE_MAX), 13);
+    refused("touch in no job", tirunoiwa_touch(P3, 0, 5, 6), 1);
+    refused("touch in P10", tirunoiwa_touch(P10, SIZE(P10), 5, 8), 9);
 }
 
 int main(void)
@@ -216,7 +229,7 @@ int main(void)
     row_of_sixty();
     turns();
     stars();
-    shares();
+    touches();
     if (wrong != 0) {
         return 1;
     }

@@ -3,6 +3,7 @@
 // the contact's two rooms, a byte each; then the job.
 use board::Board;
 use board::Reply;
+use drawing::Touch;
 use jobs::Answer;
 use stars::Stars;
 use walls::Walls;
@@ -73,13 +74,21 @@ fn numberings(job: &[u8], rounds: u64) -> u64 {
     }
 }
 
-// 1 for what is done, a thousand times the number of a refusal, where a rectangle ends, 1 for yes.
+// The length of wall that is shared, 0 for none.
+fn shared(touch: Touch) -> u64 {
+    let Touch::Wall(_, length) = touch else {
+        return 0;
+    };
+    length as u64
+}
+
+// 1 for what is done, a thousand times the number of a refusal, where a rectangle ends, the length of wall that is shared.
 fn mark(reply: Reply) -> u64 {
     match reply {
         Reply::Done => 1,
         Reply::Refused(k) => 1000 * (k as u64),
         Reply::Spans(rect) => rect.x2 as u64,
-        Reply::Says(yes) => yes as u64,
+        Reply::Touched(touch) => shared(touch),
         Reply::Wrote(_) => 0,
     }
 }
@@ -124,7 +133,7 @@ fn turnings(job: &[u8], u: usize, v: usize, rounds: u64) -> u64 {
     turns(held, u, v, rounds)
 }
 
-// One vertex after the other asked for its rectangle, and whether it shares with u, so many times, and the marks added up.
+// One vertex after the other asked for its rectangle, and how it touches u, so many times, and the marks added up.
 fn asks(first: Board, u: usize, rounds: u64) -> u64 {
     let mut sum: u64 = 0;
     let mut left = rounds;
@@ -135,7 +144,7 @@ fn asks(first: Board, u: usize, rounds: u64) -> u64 {
         let same = step.board;
         let rect = step.reply;
         sum = std::num::wrapping_add_u64(sum, mark(rect));
-        let last = same.shares(u, v);
+        let last = same.touches(u, v);
         let next = last.board;
         held = next;
         let reply = last.reply;

@@ -9,9 +9,9 @@ use lib.ListN.{length, getD}
 use Rattle.floor.specs.Jobs.{Job, isVertex, fails, reads, readJob, firstSix, writeJob}
 use Rattle.floor.specs.Jobs.Facts.{six-passed, passes-of}
 use Rattle.floor.specs.Jobs.Written.{read-test2}
-use Rattle.floor.specs.Plans.{Plan, Answer, refused, held, nowhere, rectOf, share, writePlan, drawRead}
-use Rattle.floor.specs.Calls.{load, Board, empty, holding, loads, turns, rectangle, shares, writesJob, writesPlan, refusal}
-use Rattle.floor.specs.Calls.{refuse, after, asks, writes, sharing, step}
+use Rattle.floor.specs.Plans.{Plan, Answer, refused, held, nowhere, rectOf, clear, touchOf, writePlan, drawRead}
+use Rattle.floor.specs.Calls.{load, Board, empty, holding, loads, turns, rectangle, touches, writesJob, writesPlan, refusal}
+use Rattle.floor.specs.Calls.{refuse, after, asks, writes, touching, step}
 use Rattle.fields.specs.declared.Written.{Written}
 use Rattle.fields.specs.declared.Written.the-variants.{Wrote as WroteSo, TooShort}
 use Rattle.fields.specs.Writes.{replied, writing}
@@ -22,10 +22,12 @@ use Rattle.jobs.specs.declared.Read.{Read}
 use Rattle.jobs.specs.declared.Answer.the-variants.{Passed, Refused as Failed}
 use Rattle.jobs.specs.Reads.{said as readSaid, kept as readKept, outcome as readOutcome, Tells as ReadTells}
 use Rattle.drawing.specs.declared.Rect.{Rect as HeldRect}
+use Rattle.drawing.specs.declared.Touch.{Touch}
+use Rattle.drawing.specs.declared.Touch.the-variants.{Clear}
 use Rattle.drawing.specs.declared.Answer.the-variants.{Drawn, Refused as Undrawn}
 use Rattle.drawing.specs.declared.Plan.{Plan as HeldPlan}
 use Rattle.drawing.specs.declared.Drawing.{Drawing}
-use Rattle.drawing.specs.Rects.{rectIn, rectsIn, planFrom, planIn, noPlan, heldPlan, inBytes}
+use Rattle.drawing.specs.Rects.{rectIn, touchIn, rectsIn, planFrom, planIn, noPlan, heldPlan, inBytes}
 use Rattle.drawing.specs.Drawn.{numberedAny, drawnAny, said, kept as planKept, Draws}
 use Rattle.drawing.proofs.Corollaries.{drawn-any, plan-held, rect-held}
 use Rattle.turns.specs.declared.Swing.{Swing}
@@ -34,7 +36,7 @@ use Rattle.turns.specs.InPlace.{swings, swingOf, twoSet, swungIn, turnedIn, two
 use Rattle.board.specs.declared.Board.{Board as HeldBoard}
 use Rattle.board.specs.declared.Planned.{Planned}
 use Rattle.board.specs.declared.Reply.{Reply as Said}
-use Rattle.board.specs.declared.Reply.the-variants.{Refused, Done, Spans, Says, Wrote}
+use Rattle.board.specs.declared.Reply.the-variants.{Refused, Done, Spans, Touched, Wrote}
 use Rattle.board.specs.declared.Step.{Step as Handed}
 use Rattle.board.specs.Boards.{boardFor, noBoard, boardOf, kept, Plans, replyOf, handed, Outcome, asRules, staying, stayed, newly, turnedTo, outcome, Tells}
 
@@ -166,10 +168,10 @@ module _ (b : HeldBoard) (e : b .stars .count ≡ 0) where
   unfolding outcome asRules handed step refuse replyOf
   ten-rectangle v = rw is-empty (record { reply = refl; board = refl; buffer = refl })
 
-  -- the question whether two share is refused with 10
-  pub ten-shares : (u v : ℕ) → Tells (record { board = b; reply = Refused 10 }) [] (outcome b (shares u v))
+  -- the question how two touch is refused with 10
+  pub ten-touches : (u v : ℕ) → Tells (record { board = b; reply = Refused 10 }) [] (outcome b (touches u v))
   unfolding outcome asRules handed step refuse replyOf
-  ten-shares u v = rw is-empty (record { reply = refl; board = refl; buffer = refl })
+  ten-touches u v = rw is-empty (record { reply = refl; board = refl; buffer = refl })
 
   -- the writing of the job is refused with 10, and the buffer stays
   pub ten-job : (buf : List ℕ) → Tells (record { board = b; reply = Refused 10 }) buf (outcome b (writesJob buf))
@@ -257,17 +259,17 @@ module _ (b : HeldBoard) (n : b .stars .count ≡ 0 → ⊥) where
 
   module _ (u v : ℕ) (w : Bool) (ew : w ≡ (leb u (b .stars .count + 3) && leb v (b .stars .count + 3))) where
     -- 13 where one of the two is no vertex
-    pub thirteen-shares : not w ≡ true → Tells (record { board = b; reply = Refused 13 }) [] (outcome b (shares u v))
+    pub thirteen-touches : not w ≡ true → Tells (record { board = b; reply = Refused 13 }) [] (outcome b (touches u v))
     unfolding outcome asRules handed step asks refuse replyOf
-    thirteen-shares m =
+    thirteen-touches m =
         let e : (isVertex job u && isVertex job v) ≡ false = rw (← vertex-is b u, ← vertex-is b v) (sym ew ∙ not-true w m) in
         rw (is-holding, e) (record { reply = refl; board = refl; buffer = refl })
 
-    -- else whether the two share a wall
-    pub answer-shares : not w ≡ false → (a : Bool) → ((x y : ℕ) → a ≡ sharing (planFrom x y (b .plan .rooms + 4) (b .plan .rects)) u v)
-        → Tells (record { board = b; reply = Says a }) [] (outcome b (shares u v))
+    -- else how the two touch
+    pub answer-touches : not w ≡ false → (a : Touch) → ((x y : ℕ) → touchIn a ≡ touching (planFrom x y (b .plan .rooms + 4) (b .plan .rects)) u v)
+        → Tells (record { board = b; reply = Touched a }) [] (outcome b (touches u v))
     unfolding outcome asRules step asks replyOf handed
-    answer-shares m a f =
+    answer-touches m a f =
         let e : (isVertex job u && isVertex job v) ≡ true = rw (← vertex-is b u, ← vertex-is b v) (sym ew ∙ not-false w m) in
         rw (is-holding, e) (record { reply = rw (rw (plan-held (b .plan)) at (f (b .plan .width) (b .plan .height))); board = refl; buffer = refl })
 
@@ -279,22 +281,22 @@ one-no n u v a e h = rw (← e, not-true a h)
 pub both-yes : (n u v : ℕ) (a r : Bool) → a ≡ leb u (n + 3) → not a ≡ false → r ≡ leb v (n + 3) → r ≡ (leb u (n + 3) && leb v (n + 3))
 both-yes n u v a r e h f = rw (← e, not-false a h) f
 
--- whether two vertices share, whatever the sheet
+-- how two vertices touch, whatever the sheet
 module _ (l : List ℕ) (rooms u v : ℕ) (w h : ℕ) where
   -- the plan
   abbrev on : Plan
   on = planFrom w h (rooms + 4) l
 
-  -- one vertex asked twice: no
-  pub share-twice : u ≡ v → false ≡ sharing on u v
-  unfolding sharing
-  share-twice e = rw (eq-eqb u v e)
+  -- one vertex asked twice: no wall
+  pub touch-twice : u ≡ v → touchIn Clear ≡ touching on u v
+  unfolding touching touchIn
+  touch-twice e = rw (eq-eqb u v e)
 
-  -- two vertices share exactly if their rectangles do
-  pub share-two : (r s : HeldRect) (a : Bool) → (u ≡ v → ⊥) → rectIn r ≡ getD (rectsIn (rooms + 4) 0 l) u nowhere
-      → rectIn s ≡ getD (rectsIn (rooms + 4) 0 l) v nowhere → a ≡ share (rectIn r) (rectIn s) → a ≡ sharing on u v
-  unfolding sharing rectOf
-  share-two r s a n er es e = rw (ne-eqb u v n, ← er, ← es) e
+  -- two vertices touch as their rectangles do
+  pub touch-two : (r s : HeldRect) (a : Touch) → (u ≡ v → ⊥) → rectIn r ≡ getD (rectsIn (rooms + 4) 0 l) u nowhere
+      → rectIn s ≡ getD (rectsIn (rooms + 4) 0 l) v nowhere → touchIn a ≡ touchOf (rectIn r) (rectIn s) → touchIn a ≡ touching on u v
+  unfolding touching rectOf
+  touch-two r s a n er es e = rw (ne-eqb u v n, ← er, ← es) e
 
 -- what a writing answers
 pub reply-wrote : (w : Written) (n : ℕ) → w ≡ WroteSo n → replyOf (Wrote n) ≡ replied w

@@ -3,18 +3,19 @@ use Prim.Native.Nat.{ℕ}
 use mathlib.Core.Path.{_≡_, refl, sym, ap, _∙_}
 use mathlib.Core.List.{List}
 use Rattle.floor.specs.Jobs.{Job}
-use Rattle.floor.specs.Plans.{Plan, Answer}
+use Rattle.floor.specs.Plans.{Plan, Answer, clear, wall}
 use Rattle.floor.specs.Plans.Held.{not-held, one-number}
-use Rattle.floor.specs.Calls.{Reply, refusal, done, spans, says, wrote}
+use Rattle.floor.specs.Calls.{Reply, refusal, done, spans, touch, wrote}
 use Rattle.stars.specs.Held.{jobOf}
-use Rattle.drawing.specs.Rects.{rectIn, planIn}
+use Rattle.drawing.specs.Rects.{rectIn, touchIn, planIn}
+use Rattle.drawing.specs.declared.Touch.the-variants.{Clear, Wall}
 use Rattle.drawing.specs.declared.Answer.{Answer as Judged}
 use Rattle.drawing.specs.declared.Answer.the-variants.{Drawn, Refused as Undrawn}
 use Rattle.drawing.specs.Drawn.{said}
 use Rattle.board.specs.declared.Board.{Board as HeldBoard}
 use Rattle.board.specs.declared.Planned.{Planned}
 use Rattle.board.specs.declared.Reply.{Reply as Said}
-use Rattle.board.specs.declared.Reply.the-variants.{Refused, Done, Spans, Says, Wrote}
+use Rattle.board.specs.declared.Reply.the-variants.{Refused, Done, Spans, Touched, Wrote}
 use Rattle.board.specs.declared.Step.{Step as Handed}
 use Rattle.board.specs.Boards.{Plans, replyOf, Outcome, Tells}
 
@@ -25,16 +26,18 @@ abbrev pub saying : Reply → Said
 saying (refusal k) = Refused k
 saying done = Done
 saying (spans r) = Spans (record { vertex = r .vertex; x1 = r .x1; y1 = r .y1; x2 = r .x2; y2 = r .y2 })
-saying (says b) = Says b
+saying (touch clear) = Touched Clear
+saying (touch (wall k n)) = Touched (Wall k n)
 saying (wrote n) = Wrote n
 
 -- the reply that says what a reply says is that reply
 pub saying-back : (a : Said) → saying (replyOf a) ≡ a
-unfolding replyOf rectIn
+unfolding replyOf rectIn touchIn
 saying-back (Refused k) = refl
 saying-back Done = refl
 saying-back (Spans r) = refl
-saying-back (Says b) = refl
+saying-back (Touched Clear) = refl
+saying-back (Touched (Wall k n)) = refl
 saying-back (Wrote n) = refl
 
 -- two calls that hand back the same board and the same reply hand back the same

@@ -15,7 +15,7 @@ use Rattle.floor.specs.Plans.{Plan, planOf, Answer, refused, held, drawRead, wr
 use Rattle.floor.specs.Floor.Elsewhere.{Ours}
 use Rattle.floor.specs.Turns.{turning, turn, Kept}
 use Rattle.floor.specs.Turns.Restore.{turnable, turned-keeps}
-use Rattle.floor.specs.Calls.{load, Board, empty, holding, Call, loads, turns, rectangle, shares, writesJob, writesPlan, Reply}
+use Rattle.floor.specs.Calls.{load, Board, empty, holding, Call, loads, turns, rectangle, touches, writesJob, writesPlan, Reply}
 use Rattle.floor.specs.Calls.{refuse, after, asks, writes, step}
 use Rattle.floor.specs.Calls.Sound.{Sound, sound-good, some-room, load-held, turn-held}
 use Rattle.floor.specs.Calls.Always.{reads-numbered, reads-held}
@@ -161,7 +161,7 @@ pub by-rules : (b : HeldBoard) → Stands b → (c : Call) → outcome b c ≡ a
 unfolding outcome step writing
 by-rules b s (loads bs) = refl
 by-rules b s (rectangle v) = refl
-by-rules b s (shares u v) = refl
+by-rules b s (touches u v) = refl
 by-rules b s (writesJob buf) = refl
 by-rules b holds-none (turns u v) = none-turns u v
 by-rules b holds-none (writesPlan buf) = none-writes buf
@@ -218,12 +218,12 @@ left-step b a h (loads bs) = loaded a h
     loaded a h = left-after b a h (load bs) (λ j p e. load-held bs j p e .1)
 left-step b empty h (turns u v) = h
 left-step b empty h (rectangle v) = h
-left-step b empty h (shares u v) = h
+left-step b empty h (touches u v) = h
 left-step b empty h (writesJob buf) = h
 left-step b empty h (writesPlan buf) = h
 left-step b (holding i q) h (turns u v) = left-after b (holding i q) h (turn i u v) (λ j p e. turn-held i q u v j p (sound-of b (h .0) i q (h .1)) e)
 left-step b (holding i q) h (rectangle v) = left-asks b (holding i q) h _ _ refl
-left-step b (holding i q) h (shares u v) = left-asks b (holding i q) h _ _ refl
+left-step b (holding i q) h (touches u v) = left-asks b (holding i q) h _ _ refl
 left-step b (holding i q) h (writesJob buf) = left-writes b (holding i q) h _ (writeJob i) buf
 left-step b (holding i q) h (writesPlan buf) = left-writes b (holding i q) h _ (writePlan q) buf
 

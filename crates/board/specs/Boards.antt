@@ -6,18 +6,18 @@ use mathlib.Core.List.{List, []}
 use lib.Dec.{eqb}
 use Rattle.floor.specs.Jobs.{Job}
 use Rattle.floor.specs.Plans.{Plan, Answer, refused, held, writePlan}
-use Rattle.floor.specs.Calls.{Board, empty, holding, Call, loads, turns, rectangle, shares, writesJob, writesPlan}
-use Rattle.floor.specs.Calls.{Reply, refusal, done, spans, says, wrote, Step, refuse, step}
+use Rattle.floor.specs.Calls.{Board, empty, holding, Call, loads, turns, rectangle, touches, writesJob, writesPlan}
+use Rattle.floor.specs.Calls.{Reply, refusal, done, spans, touch, wrote, Step, refuse, step}
 use Rattle.fields.specs.Writes.{writing}
 use Rattle.stars.specs.declared.Stars.{Stars}
 use Rattle.stars.specs.Held.{jobOf, noStars, heldOf}
-use Rattle.drawing.specs.Rects.{rectIn, planIn, inBytes, noPlan, heldPlan}
+use Rattle.drawing.specs.Rects.{rectIn, touchIn, planIn, inBytes, noPlan, heldPlan}
 use Rattle.drawing.specs.Drawn.{numberedAny, said}
 use Rattle.turns.specs.InPlace.{Swing, stops, swings, swingOf, twoPut}
 use Rattle.board.specs.declared.Board.{Board as HeldBoard}
 use Rattle.board.specs.declared.Planned.{Planned}
 use Rattle.board.specs.declared.Reply.{Reply as Said}
-use Rattle.board.specs.declared.Reply.the-variants.{Refused, Done, Spans, Says, Wrote}
+use Rattle.board.specs.declared.Reply.the-variants.{Refused, Done, Spans, Touched, Wrote}
 use Rattle.board.specs.declared.Step.{Step as Handed}
 
 -- THE BOARD AS A LOAD LEAVES IT: the stars of the job and the rectangles of the plan
@@ -42,12 +42,12 @@ pub record Plans (r : Planned) (x : Answer) : Type 0 where
   pub says : said (r .answer) (jobOf (r .board .stars)) (planIn (r .board .plan)) ≡ x
   pub keeps : r .board ≡ kept x
 
--- WHAT A REPLY SAYS: a refusal's number, done, the rectangle, yes or no, the length written
+-- WHAT A REPLY SAYS: a refusal's number, done, the rectangle, how two touch, the length written
 unfoldable pub replyOf : Said → Reply
 replyOf (Refused k) = refusal k
 replyOf Done = done
 replyOf (Spans r) = spans (rectIn r)
-replyOf (Says b) = says b
+replyOf (Touched t) = touch (touchIn t)
 replyOf (Wrote n) = wrote n
 
 -- the board that comes back from a call: a new one where a job and plan are newly held, and else the very board that went in
@@ -56,7 +56,7 @@ handed b done (holding j p) = boardFor j p
 handed b done empty = b
 handed b (refusal k) c = b
 handed b (spans r) c = b
-handed b (says t) c = b
+handed b (touch t) c = b
 handed b (wrote n) c = b
 
 -- what comes back from a call: the board, the answer, and the bytes of the lent buffer
@@ -93,7 +93,7 @@ unfoldable pub outcome : HeldBoard → Call → Outcome
 outcome b (loads bs) = asRules b (step (boardOf b) (loads bs))
 outcome b (turns u v) = cond (eqb (b .stars .count) 0) (staying b 10) (turnedTo b (swingOf (jobOf (b .stars)) u v))
 outcome b (rectangle v) = asRules b (step (boardOf b) (rectangle v))
-outcome b (shares u v) = asRules b (step (boardOf b) (shares u v))
+outcome b (touches u v) = asRules b (step (boardOf b) (touches u v))
 outcome b (writesJob buf) = asRules b (step (boardOf b) (writesJob buf))
 outcome b (writesPlan buf) =
     asRules b (cond (eqb (b .stars .count) 0) (refuse empty 10 buf) (writing (inBytes (writePlan (planIn (b .plan)))) buf))

@@ -1,7 +1,7 @@
 // The board: load, questions, writing. It goes in by value and comes back from each call.
 ghost use mathlib.Core.Path.{_≡_};
 ghost use mathlib.Core.List.{[]};
-ghost use Rattle.floor.specs.Calls.{load, loads, turns, rectangle, shares, writesJob, writesPlan};
+ghost use Rattle.floor.specs.Calls.{load, loads, turns, rectangle, touches, writesJob, writesPlan};
 ghost use Rattle.drawing.specs.declared.Answer.the-variants.{Refused};
 ghost use Rattle.stars.specs.Held.{jobOf};
 ghost use Rattle.drawing.specs.Drawn.{numberedAny, drawnAny, Draws};
@@ -9,6 +9,7 @@ ghost use Rattle.board.specs.Boards.{noBoard, Plans, stayed, newly, outc
 use drawing::Drawing;
 use drawing::Plan;
 use drawing::Rect;
+use drawing::Touch;
 use stars::Stars;
 
 mod questions; // questions.rt: what the questions and writings ask
@@ -30,7 +31,7 @@ pub enum Reply {
     Refused(u8),
     Done,
     Spans(Rect),
-    Says(bool),
+    Touched(Touch),
     Wrote(usize),
 }
 
@@ -196,9 +197,9 @@ impl Board {
         }
     }
 
-    // Whether two vertices share a wall length of at least 1, one vertex asked twice not: 10, 13.
-    pub fn shares(self, u: usize, v: usize) -> Step
-        ensures { λ r. ⌜ Tells r [] (outcome self (shares u v)) ⌝ }
+    // On which side v stands, seen from u, and the length of wall they share; one vertex asked twice: no wall. 10, 13.
+    pub fn touches(self, u: usize, v: usize) -> Step
+        ensures { λ r. ⌜ Tells r [] (outcome self (touches u v)) ⌝ }
     {
         if self.stars.count == 0 {
             return stays(self, 10);
@@ -206,10 +207,10 @@ impl Board {
         if !questions::two_vertices(self.stars.count, u, v) {
             return stays(self, 13);
         }
-        let answer = questions::two_share(&self.plan.rects, self.plan.rooms, u, v);
+        let touch = questions::two_touch(&self.plan.rects, self.plan.rooms, u, v);
         Step {
             board: self,
-            reply: Reply::Says(answer),
+            reply: Reply::Touched(touch),
         }
     }
 

@@ -3,11 +3,12 @@ ghost use mathlib.Core.Path.{_≡_};
 ghost use mathlib.Core.Bool.{_&&_};
 ghost use Prim.Native.Nat.{ℕ, _+_};
 ghost use lib.Dec.{leb};
-ghost use Rattle.floor.specs.Calls.{sharing};
+ghost use Rattle.floor.specs.Calls.{touching};
 ghost use Rattle.fields.specs.Writes.{replied};
-ghost use Rattle.drawing.specs.Rects.{planFrom};
+ghost use Rattle.drawing.specs.Rects.{planFrom, touchIn};
 ghost use Rattle.board.specs.Boards.{replyOf};
 use crate::Reply;
+use drawing::Touch;
 use fields::Written;
 
 // Whether a number is a vertex, of so many rooms.
@@ -27,16 +28,16 @@ pub fn two_vertices(rooms: u8, u: usize, v: usize) -> bool
     vertex(rooms, v)
 }
 
-// Whether two vertices share a wall length of at least 1, whatever the sheet; one vertex asked twice: no.
-pub fn two_share(rects: &[u16], rooms: u8, u: usize, v: usize) -> bool
-    ensures { λ r. ⌜ ((w h : ℕ) → r ≡ sharing (planFrom w h (rooms + 4) (now (rects .entry))) u v) ⌝ }
+// On which side v stands, seen from u, and the length of wall they share, whatever the sheet; one vertex asked twice: no wall.
+pub fn two_touch(rects: &[u16], rooms: u8, u: usize, v: usize) -> Touch
+    ensures { λ r. ⌜ ((w h : ℕ) → touchIn r ≡ touching (planFrom w h (rooms + 4) (now (rects .entry))) u v) ⌝ }
 {
     if u == v {
-        return false;
+        return Touch::Clear;
     }
     let r = drawing::rectangle(rects, rooms, u);
     let s = drawing::rectangle(rects, rooms, v);
-    drawing::rects::share(r, s)
+    drawing::rects::touch(r, s)
 }
 
 // What a writing answers, as a reply.

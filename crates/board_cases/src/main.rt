@@ -1,6 +1,7 @@
 // Boards made by hand: every call answers of what stands in them, by one total definition, and stops at none.
 use board::Board;
 use board::Reply;
+use drawing::Touch;
 
 // A number, with a space before it.
 fn show_number(n: usize) {
@@ -17,13 +18,15 @@ fn show_rect(rect: drawing::Rect) {
     show_number(fields::number(rect.y2));
 }
 
-// Yes or no.
-fn show_bool(yes: bool) {
-    if yes {
-        io::write_all(1, b" yes");
-    } else {
-        io::write_all(1, b" no");
-    }
+// How two vertices touch: the side and the length, or none.
+fn show_touch(touch: Touch) {
+    let Touch::Wall(side, length) = touch else {
+        io::write_all(1, b" none");
+        return;
+    };
+    io::write_all(1, b" touch");
+    show_number(fields::wide(side));
+    show_number(fields::number(length));
 }
 
 // What was asked and what a call answered, on a line.
@@ -40,8 +43,8 @@ fn show(asked: &[u8], reply: Reply) {
         Reply::Spans(rect) => {
             show_rect(rect);
         }
-        Reply::Says(yes) => {
-            show_bool(yes);
+        Reply::Touched(touch) => {
+            show_touch(touch);
         }
         Reply::Wrote(length) => {
             io::write_all(1, b" bytes");
@@ -58,11 +61,11 @@ fn show_vertex(asked: &[u8], board: Board, v: usize) {
     show(asked, reply);
 }
 
-// Whether rooms 4 and 5 share a wall.
-fn show_shares(board: Board) {
-    let step = board.shares(4, 5);
+// How room 5 touches room 4.
+fn show_touches(board: Board) {
+    let step = board.touches(4, 5);
     let reply = step.reply;
-    show(b"  4 and 5 share:", reply);
+    show(b"  5 seen from 4:", reply);
 }
 
 // The width as the bytes of a plan have it.
@@ -102,7 +105,7 @@ fn show_turned(board: Board) {
 fn show_board(name: &[u8], board: Board) {
     io::write_all(1, name);
     show_vertex(b"  rectangle of 5:", board, 5);
-    show_shares(board);
+    show_touches(board);
     show_written(board);
     show_turned(board);
 }

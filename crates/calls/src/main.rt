@@ -4,6 +4,7 @@ use board::Reply;
 use board::Step;
 use drawing::Plan;
 use drawing::Rect;
+use drawing::Touch;
 
 mod page; // page.rt: what is printed, gathered and written out
 
@@ -14,7 +15,7 @@ const TURN: u8 = 33;
 
 const RECTANGLE: u8 = 34;
 
-const SHARE: u8 = 35;
+const TOUCH: u8 = 35;
 
 const WRITE_JOB: u8 = 36;
 
@@ -82,12 +83,14 @@ fn put_refused(page: &mut [u8; 4096], k: u8) -> usize {
     page::put_next(page, name, fields::wide(k))
 }
 
-// Yes or no.
-fn put_says(page: &mut [u8; 4096], yes: bool) -> usize {
-    if yes {
-        return page::put_word(page, 0, b"yes");
-    }
-    page::put_word(page, 0, b"no")
+// How two vertices touch: the side and the length, or none.
+fn put_touch(page: &mut [u8; 4096], touch: Touch) -> usize {
+    let Touch::Wall(side, length) = touch else {
+        return page::put_word(page, 0, b"none");
+    };
+    let name = page::put_word(page, 0, b"touch");
+    let next = page::put_next(page, name, fields::wide(side));
+    page::put_next(page, next, fields::number(length))
 }
 
 // The length that was written, and the whole lent buffer, so that what lies behind is seen too.
@@ -105,7 +108,7 @@ fn put_reply<'a>(page: &mut [u8; 4096], board: Board, reply: Reply, lent: &'a [u
         Reply::Refused(k) => put_refused(page, k),
         Reply::Done => put_sheet(page, plan),
         Reply::Spans(rect) => put_rect(page, rect),
-        Reply::Says(yes) => put_says(page, yes),
+        Reply::Touched(touch) => put_touch(page, touch),
         Reply::Wrote(length) => put_wrote(page, length, lent),
     }
 }
@@ -138,12 +141,12 @@ fn rectangle(board: Board, value: &[u8]) -> Session {
     told(step, b"")
 }
 
-// Whether two vertices share a wall.
-fn share(board: Board, value: &[u8]) -> Session {
+// How two vertices touch.
+fn touch(board: Board, value: &[u8]) -> Session {
     if value.len() != 4 {
         return broken(board);
     }
-    let step = board.shares(word_at(value, 0), word_at(value, 2));
+    let step = board.touches(word_at(value, 0), word_at(value, 2));
     told(step, b"")
 }
 
@@ -201,7 +204,7 @@ fn call(board: Board, tag: u8, value: &[u8]) -> Session {
         LOAD => told(board.load(value), b""),
         TURN => turn(board, value),
         RECTANGLE => rectangle(board, value),
-        SHARE => share(board, value),
+        TOUCH => touch(board, value),
         WRITE_JOB | WRITE_PLAN => write(board, tag, value),
         STAR => star(board, value),
         _ => broken(board),

@@ -3,19 +3,21 @@
 // always one has at most five neighbours left (Euler), and six tints are enough.
 ghost use Prim.Native.Nat.{_≤_, _<_};
 use drawing::Plan;
+use drawing::Touch;
 
 // Not tinted yet.
 const NONE: u8 = 255;
 
-// Whether two rooms share a wall, as a number.
-fn touch(plan: Plan, u: usize, v: usize) -> u8 {
-    if drawing::rects::share(
+// Whether two rooms have a wall between them, as a number.
+fn walled(plan: Plan, u: usize, v: usize) -> u8 {
+    let touch = drawing::rects::touch(
         drawing::rectangle(&plan.rects, plan.rooms, u),
         drawing::rectangle(&plan.rects, plan.rooms, v),
-    ) {
-        return 1;
-    }
-    0
+    );
+    let Touch::Wall(_, _) = touch else {
+        return 0;
+    };
+    1
 }
 
 // Which rooms a room touches, in its row of the table.
@@ -24,7 +26,7 @@ fn mark_row(plan: Plan, u: usize, near: &mut [u8; 4096])
 {
     let mut v: usize = 4;
     while v < 64 {
-        near[64 * u + v] = touch(plan, u, v);
+        near[64 * u + v] = walled(plan, u, v);
         v += 1;
     }
 }

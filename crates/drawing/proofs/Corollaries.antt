@@ -1,4 +1,4 @@
--- What follows from the promises of `plan_stars`, `draw`, `drawable`, `rectangle` and `write_plan`. Assumes nothing.
+-- What follows from the promises of `plan_stars`, `draw`, `drawable`, `rectangle`, `rects::touch` and `write_plan`. Assumes nothing.
 use Prim.Native.Nat.{ℕ, _+_, _%_, _≤_, _<_}
 use mathlib.Core.Path.{_≡_, refl, sym, ap, _∙_}
 use mathlib.Core.Logic.{_↔_}
@@ -14,9 +14,10 @@ use Rattle.floor.specs.Fields.{Bytes}
 use Rattle.floor.specs.Jobs.{Job, test2}
 use Rattle.floor.specs.Jobs.Facts.{Passes}
 use Rattle.floor.specs.Walls.{Numbers, upright, level, rules, at, jobNumbers}
-use Rattle.floor.specs.Plans.{Rect, nowhere, Plan, rectOf, planOf, drawable, Answer, refused, held, drawn, writePlan}
+use Rattle.floor.specs.Plans.{Rect, nowhere, Plan, rectOf, Touch, planOf, drawable, Answer, refused, held, drawn, writePlan}
 use Rattle.floor.specs.Plans.Held.{one-number, not-held, drawn-held, drawable-is-floor, held-good, nine}
 use Rattle.floor.specs.Floor.{Complete, Floor}
+use Rattle.floor.specs.Floor.Touches.{one-side, one-length, not-clear}
 use Rattle.fields.specs.declared.Written.{Written}
 use Rattle.fields.specs.Writes.{replied, writing}
 use Rattle.fields.proofs.Corollaries.{one-answer, one-written}
@@ -24,9 +25,11 @@ use Rattle.walls.proofs.Corollaries.{by-definition}
 use Rattle.drawing.specs.declared.Answer.{Answer as Said}
 use Rattle.drawing.specs.declared.Answer.the-variants.{Drawn, Refused}
 use Rattle.drawing.specs.declared.Rect.{Rect as HeldRect}
+use Rattle.drawing.specs.declared.Touch.{Touch as Touching}
+use Rattle.drawing.specs.declared.Touch.the-variants.{Clear, Wall}
 use Rattle.drawing.specs.declared.Plan.{Plan as HeldPlan}
 use Rattle.drawing.specs.declared.Drawing.{Drawing}
-use Rattle.drawing.specs.Rects.{rectIn, rectsIn, planFrom, planIn, inBytes, heldPlan}
+use Rattle.drawing.specs.Rects.{rectIn, touchIn, rectsIn, planFrom, planIn, inBytes, heldPlan}
 use Rattle.drawing.specs.Drawn.{byNumbers, numberedAny, drawnAny, said, Draws}
 use Rattle.drawing.proofs.Asking.{length-rects}
 use Rattle.drawing.proofs.Judging.{held-back}
@@ -75,6 +78,17 @@ one-rectangle q r t d e =
     same-rect : (t : HeldRect) (v a b c d : ℕ) → v ≡ t .vertex → a ≡ t .x1 → b ≡ t .y1 → c ≡ t .x2 → d ≡ t .y2
         → record { vertex = v; x1 = a; y1 = b; x2 = c; y2 = d } ≡ t
     same-rect t v a b c d ev ea eb ec ed = rw (ev, ea, eb, ec, ed)
+
+-- THE PROMISE OF `rects::touch` ALLOWS ONE ANSWER
+pub one-touch : (x : Touch) (a b : Touching) → touchIn a ≡ x → touchIn b ≡ x → a ≡ b
+unfolding touchIn
+one-touch x Clear Clear e f = refl
+one-touch x Clear (Wall k n) e f = not-clear (e ∙ sym f)
+one-touch x (Wall k n) Clear e f = not-clear (f ∙ sym e)
+one-touch x (Wall k n) (Wall l m) e f =
+    let s : k ≡ l = one-side (e ∙ sym f) in
+    let d : n ≡ m = one-length (e ∙ sym f) in
+    rw (s, d)
 
 -- numbers that are bytes are written as they are
 pub bytes-kept : (bs : List ℕ) → Bytes bs → inBytes bs ≡ bs

@@ -1,7 +1,7 @@
 -- One rectangle and two, as the code comes by them. Assumes nothing.
 use Prim.Native.Nat.{ℕ, zero, suc, _+_, _-_, _*_, _%_, _<_, _≤_, max, min}
-use mathlib.Core.Path.{_≡_, refl, sym, _∙_}
-use mathlib.Core.Bool.{Bool, Bool·beq, true, false, not, _&&_, _||_}
+use mathlib.Core.Path.{_≡_, refl, sym, ap, _∙_}
+use mathlib.Core.Bool.{Bool, true, false, not, _&&_, _||_, cond}
 use native.Mathlib.Nat.{mul-le-mul, lt-of-le-of-lt}
 use native.Mathlib.Omega.{arith}
 use borrow.Author.Tests.{lt-ltb, le-ltb, le-leb, lt-leb, eq-eqb, ne-eqb, eqb-true}
@@ -10,9 +10,11 @@ use mir.Syntax.{w64}
 use mir.Val.{Fits}
 use Rattle.floor.specs.Lists.Laws.{no-false}
 use Rattle.floor.specs.Jobs.{Job, starOf, names}
-use Rattle.floor.specs.Plans.{overlap, abut, apart, share, corner, area, nextSide, joined, sharesJoined, follows}
+use Rattle.floor.specs.Plans.{Rect, overlap, abut, apart, Touch, wall, isWall, onLine, facing, touchOn, touchOf, corner, area, nextSide, joined, sharesJoined, follows}
 use Rattle.drawing.specs.declared.Rect.{Rect as HeldRect}
-use Rattle.drawing.specs.Rects.{rectIn}
+use Rattle.drawing.specs.declared.Touch.{Touch as Touching}
+use Rattle.drawing.specs.declared.Touch.the-variants.{Clear, Wall}
+use Rattle.drawing.specs.Rects.{rectIn, touchIn}
 use Rattle.drawing.specs.Tests.{insideSheet, away, pairOk}
 
 -- two stretches
@@ -64,11 +66,13 @@ module _ (m n : ℕ) (h : m < 65536) (k : n < 65536) where
   pub product-fits : Fits w64 (m * n)
   product-fits = omega (arith, product)
 
--- a wall that nothing reaches over adds nothing
-or-nothing : (a b : Bool) → a ≡ (a || (b && false))
-or-nothing true b = refl
-or-nothing false true = refl
-or-nothing false false = refl
+-- sides on one line share a wall exactly if they share a length of at least 1
+pub walled-line : (a b n : ℕ) → a ≡ b → leb 1 n ≡ (eqb a b && leb 1 n)
+walled-line a b n e = rw (eq-eqb a b e)
+
+-- sides on two lines share none
+pub walled-off : (a b n : ℕ) → (a ≡ b → ⊥) → false ≡ (eqb a b && leb 1 n)
+walled-off a b n e = rw (ne-eqb a b e)
 
 -- two rectangles
 module _ (r s : HeldRect) where
@@ -98,22 +102,35 @@ module _ (r s : HeldRect) where
   unfolding apart rectIn
   apart-upward n m e z f = rw (← e, ← f, ne-eqb n 0 z)
 
-  -- two that touch across share a wall exactly if they reach over one another upward by at least 1
-  pub share-beside : (b : Bool) (n : ℕ) → b ≡ beside → b ≡ true → n ≡ upward → leb 1 n ≡ share (rectIn r) (rectIn s)
-  unfolding share rectIn
-  share-beside b n e t f =
-      let g : beside ≡ true = sym e ∙ t in
-      rw (g, abut-reach (r .x1) (r .x2) (s .x1) (s .x2) g, ← f) (or-nothing (leb 1 n) above)
+  -- how they touch, a side after the other
+  module _ (n m : ℕ) (en : n ≡ across) (em : m ≡ upward) (p : Bool) (ep : p ≡ (eqb (r .y2) (s .y1) && leb 1 n)) where
+    -- above
+    pub touch-above : p ≡ true → touchIn (Wall 0 n) ≡ touchOf (rectIn r) (rectIn s)
+    unfolding touchIn touchOf touchOn onLine facing rectIn
+    touch-above t = rw (← en, ← ep, t)
 
-  -- two that touch upward only share a wall exactly if they reach over one another across by at least 1
-  pub share-above : (b t : Bool) (n : ℕ) → b ≡ beside → b ≡ false → t ≡ above → t ≡ true → n ≡ across → leb 1 n ≡ share (rectIn r) (rectIn s)
-  unfolding share rectIn
-  share-above b t n e z f y g = rw (← e, ← f, z, y, ← g)
+    module _ (fp : p ≡ false) (q : Bool) (eq : q ≡ (eqb (s .x2) (r .x1) && leb 1 m)) where
+      -- to the left
+      pub touch-left : q ≡ true → touchIn (Wall 1 m) ≡ touchOf (rectIn r) (rectIn s)
+      unfolding touchIn touchOf touchOn onLine facing rectIn
+      touch-left t = rw (← en, ← em, ← ep, fp, ← eq, t)
 
-  -- two that touch in neither direction share no wall
-  pub share-no : (b t : Bool) → b ≡ beside → b ≡ false → t ≡ above → t ≡ false → false ≡ share (rectIn r) (rectIn s)
-  unfolding share rectIn
-  share-no b t e z f y = rw (← e, ← f, z, y)
+      module _ (fq : q ≡ false) (o : Bool) (eo : o ≡ (eqb (s .y2) (r .y1) && leb 1 n)) where
+        -- below
+        pub touch-below : o ≡ true → touchIn (Wall 2 n) ≡ touchOf (rectIn r) (rectIn s)
+        unfolding touchIn touchOf touchOn onLine facing rectIn
+        touch-below t = rw (← en, ← em, ← ep, fp, ← eq, fq, ← eo, t)
+
+        module _ (fo : o ≡ false) (w : Bool) (ew : w ≡ (eqb (r .x2) (s .x1) && leb 1 m)) where
+          -- to the right
+          pub touch-right : w ≡ true → touchIn (Wall 3 m) ≡ touchOf (rectIn r) (rectIn s)
+          unfolding touchIn touchOf touchOn onLine facing rectIn
+          touch-right t = rw (← en, ← em, ← ep, fp, ← eq, fq, ← eo, fo, ← ew, t)
+
+          -- on no side
+          pub touch-clear : w ≡ false → touchIn Clear ≡ touchOf (rectIn r) (rectIn s)
+          unfolding touchIn touchOf touchOn onLine facing rectIn
+          touch-clear t = rw (← en, ← em, ← ep, fp, ← eq, fq, ← eo, fo, ← ew, t)
 
   -- two that touch across meet only at a corner exactly if they touch upward too
   pub corner-beside : (b t : Bool) → b ≡ beside → b ≡ true → t ≡ above → t ≡ corner (rectIn r) (rectIn s)
@@ -241,40 +258,83 @@ far-upward false true false false w e = refl
 far-upward x true a true w e = no-false e
 far-upward x false a b w e = no-false e
 
--- they fail where both touch, at a corner, and where neither does, over a cell
-near-same : (x y a b w : Bool) → (x && not a) ≡ false → (y && not b) ≡ false → Bool·beq a b ≡ true → false ≡ asked x y a b w
+-- where there is no wall they fail: at a corner, where both touch, and over a cell, where neither does
+near-clear : (x y a b w : Bool) → (x && not a) ≡ false → (y && not b) ≡ false → ((a && not y) || (b && not x)) ≡ false → false ≡ asked x y a b w
 unfolding asked
-near-same x y true true w e f t = and-false ((x || y) && (not (not y || not x) || w))
-near-same false false false false w e f t = refl
-near-same true y false false w e f t = no-false (sym e)
-near-same false true false false w e f t = no-false (sym f)
-near-same x y true false w e f t = no-false t
-near-same x y false true w e f t = no-false t
+near-clear x y true true w e f t = and-false ((x || y) && (not (not y || not x) || w))
+near-clear false false false false w e f t = refl
+near-clear true y false false w e f t = no-false (sym e)
+near-clear false true false false w e f t = no-false (sym f)
+near-clear x true true false w e f t = no-false (sym f)
+near-clear x false true false w e f t = no-false (sym t)
+near-clear true y false true w e f t = no-false (sym e)
+near-clear false y false true w e f t = no-false (sym t)
 
--- they share a wall where one touches; what touches reaches over one another by nothing
-near-wall : (x y a b w : Bool) → (a ≡ true → x ≡ true) → (b ≡ true → y ≡ true) → (x && not a) ≡ false → (y && not b) ≡ false → Bool·beq a b ≡ false
-    → w ≡ asked x y a b w
+-- where there is a wall nothing is asked but whether they are joined; what touches reaches over one another by nothing
+near-wall : (x y a b w : Bool) → (a ≡ true → x ≡ true) → (b ≡ true → y ≡ true) → ((a && not y) || (b && not x)) ≡ true → w ≡ asked x y a b w
 unfolding asked
-near-wall true false true false w g h e f t = and-true w
-near-wall true true true false w g h e f t = no-false (sym f)
-near-wall false y true false w g h e f t = no-false (g refl)
-near-wall false true false true w g h e f t = and-true w
-near-wall true true false true w g h e f t = no-false (sym e)
-near-wall x false false true w g h e f t = no-false (h refl)
-near-wall x y true true w g h e f t = no-false (sym t)
-near-wall x y false false w g h e f t = no-false (sym t)
+near-wall true false true false w g h t = and-true w
+near-wall true false true true w g h t = no-false (h refl)
+near-wall false y true b w g h t = no-false (g refl)
+near-wall true true true true w g h t = no-false t
+near-wall true true true false w g h t = no-false t
+near-wall false true false true w g h t = and-true w
+near-wall true y false true w g h t = no-false t
+near-wall false false false true w g h t = no-false (h refl)
+near-wall x y false false w g h t = no-false t
 
 -- at least 1 is not nothing
 some-reach : (m : ℕ) → leb 1 m ≡ not (eqb m 0)
 some-reach zero = refl
 some-reach (suc m) = rw (le-leb 1 (suc m) (omega arith), ne-eqb (suc m) 0 (λ e. omega arith))
 
+-- there is a wall on a side, or there is one elsewhere
+wall-on : (k : ℕ) (r s : Rect) (t : Touch) → isWall (touchOn k r s t) ≡ ((onLine k r s && leb 1 (facing k r s)) || isWall t)
+unfolding touchOn
+wall-on k r s t = go (onLine k r s && leb 1 (facing k r s)) (facing k r s)
+  where
+    go : (b : Bool) (n : ℕ) → isWall (cond b (wall k n) t) ≡ (b || isWall t)
+    go true n = unfold isWall in refl
+    go false n = refl
+
+-- one of two is true where the second is
+or-true : (a : Bool) → true ≡ (a || true)
+or-true true = refl
+or-true false = refl
+
+-- of sides to the left and to the right that lie on one line, b and d, one is shared where they reach over one another upward, y
+sideways : (b d y : Bool) → ((b && y) || ((d && y) || false)) ≡ (((d || b) && y) || false)
+sideways true true true = refl
+sideways true true false = refl
+sideways true false true = refl
+sideways true false false = refl
+sideways false true true = refl
+sideways false true false = refl
+sideways false false y = refl
+
+-- so of all four, with those above and below, a and c, where they reach over one another across, x
+all-sides : (a b c d x y : Bool) → ((a && x) || ((b && y) || ((c && x) || ((d && y) || false)))) ≡ (((d || b) && y) || ((a || c) && x))
+all-sides true b c d true y = or-true ((d || b) && y)
+all-sides false b true d true y = sym (or-true (b && y)) ∙ or-true ((d || b) && y)
+all-sides false b false d true y = sideways b d y
+all-sides true b true d false y = sideways b d y
+all-sides true b false d false y = sideways b d y
+all-sides false b true d false y = sideways b d y
+all-sides false b false d false y = sideways b d y
+
+-- there is a wall exactly where two touch in one direction and reach over one another in the other
+wall-is : (r s : HeldRect) → isWall (touchOf (rectIn r) (rectIn s)) ≡ ((beside r s && leb 1 (upward r s)) || (above r s && leb 1 (across r s)))
+unfolding touchOf onLine facing abut rectIn isWall
+wall-is r s =
+    rw (wall-on 0 (rectIn r) (rectIn s), wall-on 1 (rectIn r) (rectIn s), wall-on 2 (rectIn r) (rectIn s), wall-on 3 (rectIn r) (rectIn s))
+    (all-sides (eqb (r .y2) (s .y1)) (eqb (s .x2) (r .x1)) (eqb (s .y2) (r .y1)) (eqb (r .x2) (s .x1)) (leb 1 (across r s)) (leb 1 (upward r s)))
+
 module _ (j : Job) (r s : HeldRect) where
   -- all that is asked of two rectangles, by how they reach over one another, touch and are joined
   pair-is : pairOk j (rectIn r) (rectIn s)
       ≡ asked (eqb (across r s) 0) (eqb (upward r s) 0) (beside r s) (above r s) (joined j (r .vertex) (s .vertex))
-  unfolding pairOk apart sharesJoined share corner rectIn asked
-  pair-is = rw (some-reach (across r s), some-reach (upward r s))
+  unfolding pairOk apart sharesJoined corner asked
+  pair-is = rw (wall-is r s, some-reach (across r s), some-reach (upward r s)) (unfold rectIn in refl)
 
   module _ (p : Bool) (ep : p ≡ away (r .x1) (r .x2) (s .x1) (s .x2)) where
     -- two that lie away from one another across pass
@@ -288,21 +348,23 @@ module _ (j : Job) (r s : HeldRect) where
       unfolding away
       pair-far-upward t = far-upward _ _ _ _ _ (sym eq ∙ t) ∙ sym pair-is
 
-      module _ (a b : Bool) (tq : q ≡ false) (ea : a ≡ beside r s) (eb : b ≡ above r s) where
-        -- two others fail where they touch in both directions or in neither
-        pub pair-same : Bool·beq a b ≡ true → false ≡ pairOk j (rectIn r) (rectIn s)
-        unfolding away
-        pair-same t = near-same _ _ _ _ _ (sym ep ∙ tp) (sym eq ∙ tq) (rw (ea, eb) at t) ∙ sym pair-is
+      module _ (tq : q ≡ false) (x : Touching) (ex : touchIn x ≡ touchOf (rectIn r) (rectIn s)) where
+        -- whether there is a wall between them, by how they reach over one another and touch
+        told : isWall (touchIn x) ≡ ((beside r s && not (eqb (upward r s) 0)) || (above r s && not (eqb (across r s) 0)))
+        told = ap isWall ex ∙ wall-is r s ∙ rw (some-reach (across r s), some-reach (upward r s)) refl
 
-        -- two that touch in one direction only pass exactly if they are joined
-        pub pair-wall : (w : Bool) → Bool·beq a b ≡ false → w ≡ joined j (r .vertex) (s .vertex) → w ≡ pairOk j (rectIn r) (rectIn s)
-        unfolding away
-        pair-wall w t e =
-            e
+        -- two others fail where there is no wall between them
+        pub pair-clear : x ≡ Clear → false ≡ pairOk j (rectIn r) (rectIn s)
+        unfolding away touchIn isWall
+        pair-clear e = near-clear _ _ _ _ _ (sym ep ∙ tp) (sym eq ∙ tq) (sym told ∙ rw e refl) ∙ sym pair-is
+
+        -- two with a wall between them pass exactly if they are joined
+        pub pair-wall : (k n : ℕ) (w : Bool) → x ≡ Wall k n → w ≡ joined j (r .vertex) (s .vertex) → w ≡ pairOk j (rectIn r) (rectIn s)
+        unfolding touchIn isWall
+        pair-wall k n w e f =
+            f
             ∙ near-wall _ _ _ _ _
             (λ h. eq-eqb (across r s) 0 (abut-reach _ _ _ _ h))
             (λ h. eq-eqb (upward r s) 0 (abut-reach _ _ _ _ h))
-            (sym ep ∙ tp)
-            (sym eq ∙ tq)
-            (rw (ea, eb) at t)
+            (sym told ∙ rw e refl)
             ∙ sym pair-is

@@ -3,13 +3,20 @@ use Prim.Native.Nat.{ℕ, zero, suc, _+_, _-_, _*_, _%_}
 use mathlib.Core.List.{List, [], _∷_}
 use lib.ListN.{length, getD, replicate}
 use lib.Seq.{sets}
-use Rattle.floor.specs.Plans.{Rect, Plan}
+use Rattle.floor.specs.Plans.{Rect, Plan, Touch, clear, wall}
 use Rattle.drawing.specs.declared.Rect.{Rect as HeldRect}
 use Rattle.drawing.specs.declared.Plan.{Plan as HeldPlan}
+use Rattle.drawing.specs.declared.Touch.{Touch as Touching}
+use Rattle.drawing.specs.declared.Touch.the-variants.{Clear, Wall}
 
 -- a rectangle in the words of the plan
 unfoldable pub rectIn : HeldRect → Rect
 rectIn r = record { vertex = r .vertex; x1 = r .x1; y1 = r .y1; x2 = r .x2; y2 = r .y2 }
+
+-- a touch in the words of the plan
+unfoldable pub touchIn : Touching → Touch
+touchIn Clear = clear
+touchIn (Wall k n) = wall k n
 
 -- the rectangle of vertex v
 unfoldable pub rectAt : List ℕ → ℕ → Rect

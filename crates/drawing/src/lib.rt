@@ -10,7 +10,7 @@ ghost use Rattle.drawing.specs.declared.Answer.the-variants.{Refused};
 ghost use Rattle.drawing.specs.Drawn.{numberedAny, drawnAny, Draws};
 use fields::Written;
 
-pub mod rects; // rects.rt: one rectangle and two: inside, apart, share, corner, area
+pub mod rects; // rects.rt: one rectangle and two: inside, apart, touch, corner, area
 mod held; // held.rt: the held rectangles, read
 mod pairs; // pairs.rt: what is asked of any two rectangles
 mod sheet; // sheet.rt: every rectangle inside, and the areas added up
@@ -25,6 +25,12 @@ pub struct Rect {
     pub y1: u16,
     pub x2: u16,
     pub y2: u16,
+}
+
+// How one rectangle touches another: no wall between them, or the side on which the second stands, seen from the first, and the length of wall they share.
+pub enum Touch {
+    Clear,
+    Wall(u8, u16),
 }
 
 // A sheet and its rectangles, in vertex order: x1, y1, x2, y2 of each.

@@ -7,6 +7,7 @@ ghost use Rattle.stars.specs.Held.{jobIn};
 ghost use Rattle.drawing.specs.Rects.{rectIn, rectsIn};
 ghost use Rattle.drawing.specs.Tests.{pairOk};
 use crate::Rect;
+use crate::Touch;
 
 // Whether v is the next side of the frame after u, counterclockwise.
 fn next_side(u: usize, v: usize) -> bool
@@ -59,12 +60,10 @@ fn pair_ok<'a>(
     if crate::rects::away(r.y1, r.y2, s.y1, s.y2) {
         return true;
     }
-    let beside = crate::rects::abut(r.x1, r.x2, s.x1, s.x2);
-    let above = crate::rects::abut(r.y1, r.y2, s.y1, s.y2);
-    // Where both touch they meet only at a corner; where neither does they share a cell.
-    if beside == above {
-        return false;
-    }
+    let touch = crate::rects::touch(r, s);
+    let Touch::Wall(_, _) = touch else {
+        return false; // near without a wall: they share a cell, or meet only at a corner
+    };
     joined(ends, nbr, kind, count, r.vertex, s.vertex)
 }
 

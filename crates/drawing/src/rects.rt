@@ -1,20 +1,23 @@
-// One rectangle, and two: whether they share a cell, share a wall, or meet only at a corner.
+// One rectangle, and two: whether they share a cell, how they touch, and whether they meet only at a corner.
 ghost use mathlib.Core.Path.{_≡_};
+ghost use mathlib.Core.Bool.{_&&_};
 ghost use Prim.Native.Nat.{_-_, _<_, max, min};
-ghost use Rattle.floor.specs.Plans.{overlap, abut, apart, area, share, corner, follows};
-ghost use Rattle.drawing.specs.Rects.{rectIn};
+ghost use lib.Dec.{eqb, leb};
+ghost use Rattle.floor.specs.Plans.{overlap, abut, apart, area, touchOf, corner, follows};
+ghost use Rattle.drawing.specs.Rects.{rectIn, touchIn};
 ghost use Rattle.drawing.specs.Tests.{insideSheet, away};
 use crate::Rect;
+use crate::Touch;
 
 // The larger of two numbers.
-fn larger(a: u16, b: u16) -> u16
+pub fn larger(a: u16, b: u16) -> u16
     ensures { λ r. ⌜ r ≡ max a b ⌝ }
 {
     if a < b { b } else { a }
 }
 
 // The smaller of two numbers.
-fn smaller(a: u16, b: u16) -> u16
+pub fn smaller(a: u16, b: u16) -> u16
     ensures { λ r. ⌜ r ≡ min a b ⌝ }
 {
     if a < b { a } else { b }
@@ -38,7 +41,7 @@ fn overlap(a: u16, b: u16, c: u16, d: u16) -> u16
 }
 
 // Whether the stretches touch end to end.
-pub(crate) fn abut(a: u16, b: u16, c: u16, d: u16) -> bool
+fn abut(a: u16, b: u16, c: u16, d: u16) -> bool
     ensures { λ r. ⌜ r ≡ abut a b c d ⌝ }
 {
     if b == c {
@@ -67,17 +70,35 @@ pub fn apart(r: Rect, s: Rect) -> bool
     overlap(r.y1, r.y2, s.y1, s.y2) == 0
 }
 
-// Whether two rectangles share a wall length of at least 1. Stretches that touch end to end reach over one another by nothing.
-pub fn share(r: Rect, s: Rect) -> bool
-    ensures { λ b. ⌜ b ≡ share (rectIn r) (rectIn s) ⌝ }
+// Whether two sides lie on one line and share a length of at least 1.
+fn walled(a: u16, b: u16, length: u16) -> bool
+    ensures { λ r. ⌜ r ≡ (eqb a b && leb 1 length) ⌝ }
 {
-    if abut(r.x1, r.x2, s.x1, s.x2) {
-        return 1 <= overlap(r.y1, r.y2, s.y1, s.y2);
-    }
-    if abut(r.y1, r.y2, s.y1, s.y2) {
-        return 1 <= overlap(r.x1, r.x2, s.x1, s.x2);
+    if a == b {
+        return 1 <= length;
     }
     false
+}
+
+// How s touches r: the side on which it stands, seen from r, and the length of wall they share. The sides are asked in turn.
+pub fn touch(r: Rect, s: Rect) -> Touch
+    ensures { λ t. ⌜ touchIn t ≡ touchOf (rectIn r) (rectIn s) ⌝ }
+{
+    let across = overlap(r.x1, r.x2, s.x1, s.x2);
+    let upward = overlap(r.y1, r.y2, s.y1, s.y2);
+    if walled(r.y2, s.y1, across) {
+        return Touch::Wall(0, across);
+    }
+    if walled(s.x2, r.x1, upward) {
+        return Touch::Wall(1, upward);
+    }
+    if walled(s.y2, r.y1, across) {
+        return Touch::Wall(2, across);
+    }
+    if walled(r.x2, s.x1, upward) {
+        return Touch::Wall(3, upward);
+    }
+    Touch::Clear
 }
 
 // Whether two rectangles meet only at a corner point.

@@ -2,27 +2,24 @@
 use Prim.Native.Nat.{ℕ, _+_, _≤_, _<_}
 use mathlib.Core.Path.{_≡_}
 use mathlib.Core.Logic.{_⊎_, _↔_}
-use mathlib.Core.Bool.{true}
 use mathlib.Core.Option.{some}
-use mathlib.Core.List.{List, map}
+use mathlib.Core.List.{List, map, List·Memᴰ}
 use lib.ListN.{length}
-use borrow.Author.Tests.{ne-eqb}
-use Rattle.floor.specs.Lists.Laws.{same-test}
 use Rattle.floor.specs.Fields.{Bytes}
-use Rattle.floor.specs.Jobs.{Job, Vertex, Labelling, writeJob, Entry, Star, OnlyStarts, reads, readJob}
+use Rattle.floor.specs.Jobs.{Job, Vertex, Labelling, writeJob, Entry, Star, OnlyStarts, reads, readJob, Room, opposite, starOf}
 use Rattle.floor.specs.Jobs.Facts.{labelling-passes}
 use Rattle.floor.specs.Walls.{Circle, upright, level, rules, at, jobNumbers}
-use Rattle.floor.specs.Plans.{Plan, rectOf, share, planOf, joined, refused, held, drawn, Numbered, Alike}
+use Rattle.floor.specs.Plans.{Plan, rectOf, planOf, joined, refused, held, drawn, Numbered, Alike, clear, wall, isWall}
 use Rattle.floor.specs.Plans.Held.{seven, nine, held-bound}
-use Rattle.floor.specs.Floor.{Shares, Joined, Floor}
-use Rattle.floor.specs.Floor.Joins.{joined-of, of-joined}
-use Rattle.floor.specs.Floor.Draws.{shares-of, of-shares}
+use Rattle.floor.specs.Floor.{Floor, Borders}
+use Rattle.floor.specs.Floor.Sides.{up, left, down, right, wn, ws, ne, se}
 use Rattle.floor.specs.Turns.{turn, Kept, Turnable, turnedBy, InContact}
 use Rattle.floor.specs.Turns.Turned.{turned-places}
 use Rattle.floor.specs.Turns.Restore.{turned-keeps}
-use Rattle.floor.specs.Calls.{load, Board, empty, holding, Call, loads, turns, refusal, done, lent, sharing, step, run, Accepted, Answers, Left, Restored}
-use Rattle.floor.specs.Calls.{BoardsAlike, StepsAlike, WellHeld, ofLoad, Turned}
+use Rattle.floor.specs.Calls.{load, Board, empty, holding, Call, loads, turns, refusal, done, lent, step, run, Accepted, Answers, Left, Restored}
+use Rattle.floor.specs.Calls.{BoardsAlike, StepsAlike, WellHeld, ofLoad, Turned, touching}
 use Rattle.floor.specs.Calls.Sound.{Sound, some-room, sound-good, any-calls-sound, SoundBoard, step-sound, run-sound}
+use Rattle.floor.specs.Calls.Touching.{touch-joined, touch-borders, touching-back, touch-label, touch-twice, frame-touch, frame-clear}
 use Rattle.floor.specs.Calls.Effects.{refused-leaves, write-load, load-write, turn-turn}
 use Rattle.floor.specs.Calls.Always.{turn-done, turn-refused}
 use Rattle.floor.specs.Calls.Exact.{drawn-numbered, accepted, load-answers, turned-exactly}
@@ -87,20 +84,44 @@ any-calls-numbers cs j p h = any-calls-held cs j p h .numbers
 pub any-calls-bound : (cs : List Call) (j : Job) (p : Plan) → run empty cs ≡ holding j p → (p .width ≤ length j + 2) × (p .height ≤ length j + 2)
 any-calls-bound cs j p h = any-calls-held cs j p h .bound
 
--- Asked whether two vertices share a wall, it says yes exactly if the job joins them or they are neighbouring sides of the frame.
-pub any-calls-share : (cs : List Call) (j : Job) (p : Plan) → run empty cs ≡ holding j p
-    → (u v : ℕ) → Vertex j u → Vertex j v → (u ≡ v → ⊥) → sharing p u v ≡ joined j u v
-unfolding sharing
-any-calls-share cs j p h u v hu hv ne = rw (ne-eqb u v ne) (same-test (share (rectOf p u) (rectOf p v)) (joined j u v) forth back)
-  where
-    same : Shares (rectOf p u) (rectOf p v) ↔ Joined j u v
-    same = any-calls-floor cs j p h .contacts u v hu hv ne
+-- Asked how two vertices touch, it finds a wall exactly if the job joins them or they are neighbouring sides of the frame;
+pub any-calls-touch : (cs : List Call) (j : Job) (p : Plan) → run empty cs ≡ holding j p
+    → (u v : ℕ) → Vertex j u → Vertex j v → (u ≡ v → ⊥) → isWall (touching p u v) ≡ joined j u v
+any-calls-touch cs j p h = touch-joined j p (any-calls-sound cs j p h)
 
-    forth : share (rectOf p u) (rectOf p v) ≡ true → joined j u v ≡ true
-    forth e = of-joined j u v (same .0 (shares-of (rectOf p u) (rectOf p v) e))
+-- it then tells the side on which the second stands, seen from the first, and the true length of the wall they share;
+pub any-calls-length : (cs : List Call) (j : Job) (p : Plan) → run empty cs ≡ holding j p
+    → (u v : ℕ) → Vertex j u → Vertex j v → (u ≡ v → ⊥) → (k n : ℕ) → (touching p u v ≡ wall k n) ↔ Borders k n (rectOf p u) (rectOf p v)
+any-calls-length cs j p h = touch-borders j p (any-calls-sound cs j p h)
 
-    back : joined j u v ≡ true → share (rectOf p u) (rectOf p v) ≡ true
-    back e = of-shares (rectOf p u) (rectOf p v) (same .1 (joined-of j u v e))
+-- the other way round the side is opposite and the length equal;
+pub any-calls-back : (cs : List Call) (j : Job) (p : Plan) → run empty cs ≡ holding j p
+    → (u v : ℕ) → Vertex j u → Vertex j v → (k n : ℕ) → touching p u v ≡ wall k n → touching p v u ≡ wall (opposite k) n
+any-calls-back cs j p h = touching-back j p (any-calls-sound cs j p h)
+
+-- and of a room and whom its star names, the side is the labelled one.
+pub any-calls-side : (cs : List Call) (j : Job) (p : Plan) → run empty cs ≡ holding j p
+    → (u : ℕ) → Room j u → (e : Entry) → List·Memᴰ e (starOf j u) → (n : ℕ) × (touching p u (e .to) ≡ wall (e .kind) n)
+any-calls-side cs j p h = touch-label j p (any-calls-sound cs j p h)
+
+-- Sides of the frame answer as they lie: N and S stand to the right of W, and E to the right of N and of S, each with one cell's length of wall; N and S, and W and
+-- E, have none between them;
+pub any-calls-frame : (cs : List Call) (j : Job) (p : Plan) → run empty cs ≡ holding j p
+    → (touching p 1 0 ≡ wall 3 1) × (touching p 1 2 ≡ wall 3 1) × (touching p 0 3 ≡ wall 3 1) × (touching p 2 3 ≡ wall 3 1)
+    × (touching p 0 2 ≡ clear) × (touching p 1 3 ≡ clear)
+any-calls-frame cs j p h =
+    let s : Sound j p = any-calls-sound cs j p h in (
+      frame-touch j p s right left up wn,
+      frame-touch j p s right left down ws,
+      frame-touch j p s right up right ne,
+      frame-touch j p s right down right se,
+      frame-clear j p s up,
+      frame-clear j p s left,
+    )
+
+-- and one vertex asked twice has none.
+pub any-calls-twice : (cs : List Call) (j : Job) (p : Plan) → run empty cs ≡ holding j p → (u : ℕ) → touching p u u ≡ clear
+any-calls-twice cs j p h u = touch-twice p u
 
 -- A job that has passed every earlier test is refused as undrawable exactly when its numbered rectangles break one of these.
 pub undrawable-exactly : (j : Job) → Labelling j → 0 < length j → (f g : List ℕ) → jobNumbers upright j ≡ some f → jobNumbers level j ≡ some g

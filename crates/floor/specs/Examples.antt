@@ -7,16 +7,16 @@ use lib.Dec.{eqb}
 use lib.ListN.{replicate}
 use Rattle.floor.specs.Lists.{all, any, keep, pairwise, sum, sameNumbers, upFrom}
 use Rattle.floor.specs.Fields.{readField, restOf, writeField}
-use Rattle.floor.specs.Jobs.{linksTo, links, changes, goesOn}
-use Rattle.floor.specs.Jobs.{Star, Job, opposite, frameKind, rooms, isVertex, isRoom, starOf, names, lists, kindOf, listOf, pairsIn, test2, test3}
-use Rattle.floor.specs.Jobs.{entryOk, test4, starOk, test5, test6, entries, starThen, readStars, readRest, readRooms, readFirst, readJob, passing}
-use Rattle.floor.specs.Jobs.{firstSix, starBytes, writeStars, writeJob}
+use Rattle.floor.specs.Jobs.{linksTo, links, changes, goesOn, Star, Job, opposite, frameKind, rooms, isVertex, isRoom, starOf, names, lists, kindOf}
+use Rattle.floor.specs.Jobs.{listOf, pairsIn, test2, test3, entryOk, test4, starOk, test5, test6, entries, starThen, readStars, readRest, readRooms}
+use Rattle.floor.specs.Jobs.{readFirst, readJob, passing, firstSix, starBytes, writeStars, writeJob}
 use Rattle.floor.specs.Walls.{entryRules, starRules, rulesFrom, raise, relax1, relax, meets, over, passes, numbersOf, jobNumbers}
-use Rattle.floor.specs.Plans.{Rect, rectOf, roomRect, planOf, inside, overlap, abut, apart, area, share, corner, nextSide, joined, sharesJoined}
-use Rattle.floor.specs.Plans.{follows, inOrder, roundInOrder, drawable, past, tested, planned, drawn, drawRead, rectBytes, writeRects, writePlan}
+use Rattle.floor.specs.Plans.{Rect, rectOf, roomRect, planOf, inside, overlap, abut, apart, area, corner, nextSide, joined, sharesJoined, follows}
+use Rattle.floor.specs.Plans.{inOrder, roundInOrder, drawable, past, tested, planned, drawn, drawRead, rectBytes, writeRects, writePlan, isWall, onLine}
+use Rattle.floor.specs.Plans.{facing, touchOn, touchOf, clear, wall}
 use Rattle.floor.specs.Turns.{turnedKind, withKind, endsAt, isLast, turned, turningAt, turningFrom, inContact, turning, turn}
-use Rattle.floor.specs.Calls.{Board, empty, holding, Call, loads, turns, rectangle, shares, writesJob, writesPlan, Reply, refusal, done, spans, says}
-use Rattle.floor.specs.Calls.{wrote, Step, load, refuse, after, asks, writes, sharing, step, run}
+use Rattle.floor.specs.Calls.{Board, empty, holding, Call, loads, turns, rectangle, writesJob, writesPlan, Reply, refusal, done, spans, wrote, Step, load}
+use Rattle.floor.specs.Calls.{refuse, after, asks, writes, step, run, touches, touch, touching}
 
 -- P1: one room
 p1 : List ℕ
@@ -155,12 +155,13 @@ unfoldable pub plan : Board → List ℕ
 plan empty = []
 plan (holding j p) = p .width ∷ p .height ∷ numbers (p .rects)
 
--- a refusal's number; the plan now held; a rectangle; 1 for yes and 0 for no; the length written and the whole buffer
+-- a refusal's number; the plan now held; a rectangle; side and length of a wall, or nothing; the length written and the whole buffer
 unfoldable pub told : Reply → Board → List ℕ → List ℕ
 told (refusal k) b buf = k ∷ []
 told done b buf = plan b
 told (spans r) b buf = numbers (r ∷ [])
-told (says t) b buf = cond t 1 0 ∷ []
+told (touch clear) b buf = []
+told (touch (wall k n)) b buf = k ∷ n ∷ []
 told (wrote n) b buf = n ∷ buf
 
 -- some calls on an empty board, then one more, and what it shows
@@ -255,17 +256,20 @@ table =
     -- no vertex 5
     record { before = loads p1 ∷ []; last = rectangle 5; shows = 13 ∷ [] }
     ∷
-    -- N and room 4 share
-    record { before = loads p1 ∷ []; last = shares 0 4; shows = 1 ∷ [] }
+    -- room 4 stands below N, with one cell's length of wall
+    record { before = loads p1 ∷ []; last = touches 0 4; shows = 2 ∷ 1 ∷ [] }
     ∷
-    -- N and S do not
-    record { before = loads p1 ∷ []; last = shares 0 2; shows = 0 ∷ [] }
+    -- room 4 of F stands to the left of room 5, with one cell's length of wall
+    record { before = loads jobF ∷ []; last = touches 5 4; shows = 1 ∷ 1 ∷ [] }
+    ∷
+    -- no wall between N and S
+    record { before = loads p1 ∷ []; last = touches 0 2; shows = [] }
     ∷
     -- one vertex asked twice
-    record { before = loads p1 ∷ []; last = shares 4 4; shows = 0 ∷ [] }
+    record { before = loads p1 ∷ []; last = touches 4 4; shows = [] }
     ∷
     -- one of two too large
-    record { before = loads p1 ∷ []; last = shares 4 5; shows = 13 ∷ [] }
+    record { before = loads p1 ∷ []; last = touches 4 5; shows = 13 ∷ [] }
     ∷
     -- 24 rooms in a row: sheet 26 by 3, and the last of them ends at 25
     record { before = loads (writeJob (row 24)) ∷ []; last = rectangle 27; shows = 27 ∷ 24 ∷ 1 ∷ 25 ∷ 2 ∷ [] }
@@ -287,8 +291,7 @@ unfolding rowStar row p1 p5 p6 p7 jobF jobG turnedG oneRoom below p10 floorP1 fl
     lists kindOf listOf pairsIn test2 test3 entryOk test4 starOk
     test5 test6 entries starThen readStars readRest readRooms readFirst readJob passing firstSix starBytes writeStars writeJob entryRules starRules
     rulesFrom raise relax1
-    relax meets over passes numbersOf jobNumbers rectOf roomRect planOf inside overlap abut apart area share corner nextSide joined sharesJoined follows
-    inOrder roundInOrder drawable past tested planned drawn rectBytes writeRects writePlan
-    turnedKind withKind turned turningAt turningFrom turning inContact turn
-    drawRead load refuse after asks writes sharing step run
+    relax meets over passes numbersOf jobNumbers rectOf roomRect planOf inside overlap abut apart area corner nextSide joined sharesJoined follows inOrder
+    roundInOrder drawable past tested planned drawn rectBytes writeRects writePlan turnedKind withKind turned turningAt turningFrom turning inContact turn
+    drawRead load refuse after asks writes step run isWall onLine facing touchOn touchOf touching
 examples = refl

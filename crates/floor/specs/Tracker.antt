@@ -1,18 +1,20 @@
 -- What a program that keeps no board asks of a job's bytes: the calls of a board, made one behind the other on an empty one. Assumes nothing.
-use Prim.Native.Nat.{ℕ, _+_}
-use mathlib.Core.Bool.{cond}
+use Prim.Native.Nat.{ℕ, _+_, _*_}
 use mathlib.Core.List.{List}
 use lib.ListN.{length}
 use lib.Dec.{leb}
 use Rattle.floor.specs.Jobs.{rawStar}
-use Rattle.floor.specs.Calls.{empty, Board, Call, loads, turns, shares, writesJob, writesPlan, lent, Reply, refusal, done, spans, says, wrote, Step, refuse, writes, step}
+use Rattle.floor.specs.Plans.{Touch, clear, wall}
+use Rattle.floor.specs.Calls.{empty, Board, Call, loads, turns, touches, writesJob, writesPlan, lent, Reply, refusal, done, spans, touch, wrote, Step}
+use Rattle.floor.specs.Calls.{refuse, writes, step}
+pub mod Codes
 
 -- a call made behind one with this reply: none is made behind a refused one, and its number stands
 unfoldable pub behind : Reply → Board → Call → Step
 behind (refusal k) b c = refuse b k (lent c)
 behind done b c = step b c
 behind (spans r) b c = step b c
-behind (says t) b c = step b c
+behind (touch t) b c = step b c
 behind (wrote n) b c = step b c
 
 -- a call made behind another
@@ -27,18 +29,23 @@ planOfJob bs buf = then (step empty (loads bs)) (writesPlan buf)
 unfoldable pub turnedOfJob : List ℕ → ℕ → ℕ → List ℕ → Step
 turnedOfJob bs u v buf = then (then (step empty (loads bs)) (turns u v)) (writesJob buf)
 
--- WHETHER TWO VERTICES OF A JOB SHARE a wall length of at least 1
-unfoldable pub shareOfJob : List ℕ → ℕ → ℕ → Step
-shareOfJob bs u v = then (step empty (loads bs)) (shares u v)
+-- HOW TWO VERTICES OF A JOB TOUCH
+unfoldable pub touchOfJob : List ℕ → ℕ → ℕ → Step
+touchOfJob bs u v = then (step empty (loads bs)) (touches u v)
 
 -- THE STAR OF A ROOM in raw job bytes, written to a lent buffer; no bytes where there is no such room
 unfoldable pub starOfJob : List ℕ → ℕ → List ℕ → Step
 starOfJob bs room buf = writes empty (leb (length (rawStar bs room)) (length buf)) (rawStar bs room) buf
 
--- AN ANSWER AS ONE NUMBER: a refusal is its own number, below 256; from 256 on it is a length that was written, or 1 for yes and 0 for no
+-- a touch as one number: 0 for no wall; else four times the shared length, plus the side
+unfoldable pub touchCode : Touch → ℕ
+touchCode clear = 0
+touchCode (wall k n) = 4 * n + k
+
+-- AN ANSWER AS ONE NUMBER: a refusal is its own number, below 256; from 256 on it is a length that was written, or a touch as one number
 unfoldable pub code : Reply → ℕ
 code (refusal k) = k
 code done = 256
 code (spans r) = 256
-code (says t) = 256 + cond t 1 0
+code (touch t) = 256 + touchCode t
 code (wrote n) = 256 + n

@@ -20,8 +20,8 @@ pub front-whole : (o t x : List ℕ) (r : ℕ) → Puts o 0 t x r → length t �
 unfolding behind
 front-whole o t x r p h = (omega (arith, p .place), p .buffer)
 
--- the same on a page of 8,192 bytes
-pub front-put : (o t x : List ℕ) (r : ℕ) → Puts o 0 t x r → length o ≡ 8192 → length t ≤ 8192 → (r ≡ length t) × (x ≡ sets o 0 t) × (r ≤ 8192)
+-- the same on a page of n bytes
+pub front-put : (o t x : List ℕ) (r : ℕ) {n : ℕ} → Puts o 0 t x r → length o ≡ n → length t ≤ n → (r ≡ length t) × (x ≡ sets o 0 t) × (r ≤ n)
 front-put o t x r p l h = let (e, q) = front-whole o t x r p (omega arith) in (e, q, omega arith)
 
 -- a text put behind another: the two, put as one

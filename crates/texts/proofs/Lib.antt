@@ -1,3 +1,5 @@
 mod Rows
 mod Answers
 mod Plans
+mod Fitting
+pub mod Corollaries

@@ -16,7 +16,7 @@ use Rattle.letters.proofs.Rows.{both-puts, named, none-put, front-put}
 use Rattle.texts.proofs.Rows.{two-short, five-short}
 
 -- how large the vertices of the rectangles that are held are
-vertex-at : (m k i : ℕ) (l : List ℕ) → (getD (rectsIn m k l) i nowhere) .vertex ≤ k + i
+pub vertex-at : (m k i : ℕ) (l : List ℕ) → (getD (rectsIn m k l) i nowhere) .vertex ≤ k + i
 unfolding rectsIn rectAt
 vertex-at zero k i l = omega arith
 vertex-at (suc m) k zero l = omega arith

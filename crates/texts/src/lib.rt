@@ -1,14 +1,16 @@
 // What is printed of an answer, as text in a lent buffer.
 ghost use mathlib.Core.Path.{_≡_};
 ghost use Prim.Native.Nat.{_+_, _≤_};
-ghost use lib.ListN.{length};
+ghost use lib.ListN.{length, replicate};
 ghost use lib.Seq.{sets};
 ghost use Rattle.floor.specs.Plans.{refused};
 ghost use Rattle.floor.specs.Texts.{tooLong, planText, answerText, listing};
+ghost use Rattle.floor.specs.Doors.{doorsListing};
 ghost use Rattle.drawing.specs.Rects.{planFrom};
 
 mod line; // line.rt: numbers on one line
 mod plan; // plan.rt: a line for each rectangle
+mod doors; // doors.rt: a line for each contact of two rooms
 
 // The number of a refusal, as text at the front; how many bytes that takes is handed back.
 pub fn list_refusal(k: u8, out: &mut [u8; 8192]) -> usize
@@ -51,5 +53,30 @@ pub fn list(input: &[u8], out: &mut [u8; 8192]) -> usize
             list_plan(&plan.rects, plan.rooms, plan.width, plan.height, out)
         }
         drawing::Answer::Refused(k) => list_refusal(k, out),
+    }
+}
+
+// A page for what the doors program prints, noughts at first: room for a line of each two of 60 rooms.
+pub fn doors_page() -> [u8; 49152]
+    ensures { λ r. ⌜ r ≡ replicate 49152 0 ⌝ }
+{
+    [0; 49152]
+}
+
+// What the doors program prints for some input, at the front; how many bytes that takes is handed back.
+pub fn list_doors(input: &[u8], out: &mut [u8; 49152]) -> usize
+    ensures { λ r. ⌜ (r ≡ length (doorsListing (now (input .entry)))) × (now (out .exit) ≡ sets (now (out .entry)) 0 (doorsListing (now (input .entry))))
+        × (r ≤ 49152) ⌝ }
+{
+    if 8192 < input.len() {
+        return letters::word::put_too_long(out, 0);
+    }
+    let planned = board::plan_job(input);
+    let board = planned.board;
+    let plan = board.plan;
+    let answer = planned.answer;
+    match answer {
+        drawing::Answer::Drawn => doors::put_doors(&plan.rects, plan.rooms, out, 0),
+        drawing::Answer::Refused(k) => letters::line::put_refusal(out, 0, k),
     }
 }

@@ -35,3 +35,20 @@ pub fn put_five(
     let fourth = letters::line::put_then(out, third, y1, 32);
     put_two(out, fourth, x2, y2)
 }
+
+// A line of six numbers: two rooms, a side, from where and to where a stretch of wall runs, and its length.
+pub fn put_six(
+    out: &mut [u8],
+    at: usize,
+    u: usize,
+    v: usize,
+    side: usize,
+    start: usize,
+    stop: usize,
+    length: usize,
+) -> usize
+    ensures { λ r. ⌜ Puts (now (out .entry)) at (line (u ∷ v ∷ side ∷ start ∷ stop ∷ length ∷ [])) (now (out .exit)) r ⌝ }
+{
+    let second = letters::line::put_then(out, at, u, 32);
+    put_five(out, second, v, side, start, stop, length)
+}

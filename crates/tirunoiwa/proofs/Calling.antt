@@ -4,7 +4,7 @@ use mathlib.Core.Path.{_≡_, refl, sym, ap, _∙_}
 use mathlib.Core.List.{List}
 use native.Mathlib.Omega.{arith}
 use lib.ListN.{length}
-use Rattle.floor.specs.Calls.{Board, Call, Reply, refusal, done, spans, says, wrote, Step, lent, refuse, step}
+use Rattle.floor.specs.Calls.{Board, Call, Reply, refusal, done, spans, touch, wrote, Step, lent, refuse, step}
 use Rattle.floor.specs.Tracker.{behind, then, code}
 use Rattle.board.specs.declared.Board.{Board as HeldBoard}
 use Rattle.board.specs.declared.Step.{Step as Handed}
@@ -22,7 +22,7 @@ unfolding behind code refuse
 behind-refused (refusal k) b c h = (refl, refl)
 behind-refused done b c h = absurd (omega arith)
 behind-refused (spans r) b c h = absurd (omega arith)
-behind-refused (says t) b c h = absurd (omega arith)
+behind-refused (touch t) b c h = absurd (omega arith)
 behind-refused (wrote n) b c h = absurd (omega arith)
 
 -- behind any other the call is made
@@ -31,7 +31,7 @@ unfolding behind code
 behind-goes (refusal k) b c n h = absurd (omega (arith, n .1))
 behind-goes done b c n h = refl
 behind-goes (spans r) b c n h = refl
-behind-goes (says t) b c n h = refl
+behind-goes (touch t) b c n h = refl
 behind-goes (wrote n) b c m h = refl
 
 -- what any answer of the call has, and the refusal before it, the answer behind has
@@ -41,7 +41,7 @@ unfolding behind refuse
 behind-any c P f (refusal k) b h = h k refl
 behind-any c P f done b h = f b
 behind-any c P f (spans r) b h = f b
-behind-any c P f (says t) b h = f b
+behind-any c P f (touch t) b h = f b
 behind-any c P f (wrote n) b h = f b
 
 -- what any answer of a call has, and the refusal of the step before it, the answer of both together has
@@ -66,9 +66,9 @@ module _ {b : HeldBoard} (h : Reached b) (c : Call) {r : Handed} {x : List ℕ} 
   told : AsRules b c r x
   told = reached-step b h c r x t
 
-  -- its answer fits: a buffer takes less than half of all addresses
-  pub fits : length (lent c) * 1 < 2 ^ 63 → code (replyOf (r .reply)) < 2 ^ 64
-  fits m = let k : code (replyOf (r .reply)) ≤ 257 + length (lent c) = rw (told .reply) (step-most (boardOf b) c) in omega arith
+  -- a length that it tells fits: a buffer takes less than half of all addresses
+  pub fits : length (lent c) * 1 < 2 ^ 63 → (n : ℕ) → replyOf (r .reply) ≡ wrote n → 256 + n < 2 ^ 64
+  fits m n e = let k : n ≤ length (lent c) = step-most (boardOf b) c n (sym (told .reply) ∙ e) in omega arith
 
   -- it leaves what the rules say of what the board holds
   pub left : {d : ℕ} → d ≡ code (replyOf (r .reply)) → (o : Board) → boardOf b ≡ o → Left (r .board) d (step o c)

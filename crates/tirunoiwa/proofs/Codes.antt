@@ -1,30 +1,37 @@
 -- A reply as one number, as the code comes by it. Assumes nothing.
-use Prim.Native.Nat.{ℕ, _+_, _^_, _<_}
+use Prim.Native.Nat.{ℕ, _+_, _*_, _^_, _<_}
 use mathlib.Core.Path.{_≡_}
-use mathlib.Core.Bool.{Bool, true, false}
 use native.Mathlib.Omega.{arith}
 use mir.Syntax.{w64}
-use mir.Val.{Fits, boolByte}
-use Rattle.floor.specs.Tracker.{code}
+use mir.Val.{Fits}
+use Rattle.floor.specs.Calls.{wrote}
+use Rattle.floor.specs.Tracker.{touchCode, code}
+use Rattle.drawing.specs.declared.Touch.{Touch as Touching}
+use Rattle.drawing.specs.declared.Touch.the-variants.{Clear, Wall}
+use Rattle.drawing.specs.Rects.{touchIn}
 use Rattle.board.specs.declared.Reply.{Reply as Said}
-use Rattle.board.specs.declared.Reply.the-variants.{Says, Wrote}
+use Rattle.board.specs.declared.Reply.the-variants.{Touched, Wrote}
 use Rattle.board.specs.Boards.{replyOf}
 
--- yes is 257, no is 256
-pub says-fits : (t : Bool) → Fits w64 (256 + boolByte t)
-says-fits true = omega arith
-says-fits false = omega arith
+-- no wall is 0
+pub code-clear : (t : Touching) → t ≡ Clear → 0 ≡ touchCode (touchIn t)
+unfolding touchIn touchCode
+code-clear t e = rw e
 
--- yes or no, told so, is that reply as one number
-pub code-says : (q : Said) (t : Bool) → q ≡ Says t → 256 + boolByte t ≡ code (replyOf q)
+-- a wall is four times its length, plus its side
+pub code-wall : (t : Touching) (k n a b : ℕ) → t ≡ Wall k n → a ≡ n → b ≡ k → 4 * a + b ≡ touchCode (touchIn t)
+unfolding touchIn touchCode
+code-wall t k n a b e f g = rw (e, f, g)
+
+-- a touch, told as 256 more, is that reply as one number
+pub code-touched : (q : Said) (t : Touching) (n : ℕ) → q ≡ Touched t → n ≡ touchCode (touchIn t) → 256 + n ≡ code (replyOf q)
 unfolding replyOf code
-code-says q true e = rw e
-code-says q false e = rw e
+code-touched q t n e f = rw (e, f)
 
 -- a length that was written
-pub wrote-fits : (q : Said) (n : ℕ) → q ≡ Wrote n → code (replyOf q) < 2 ^ 64 → Fits w64 (256 + n)
-unfolding replyOf code
-wrote-fits q n e h = let k : 256 + n < 2 ^ 64 = rw e at h in record { fits = k }
+pub wrote-fits : (q : Said) (n : ℕ) → q ≡ Wrote n → ((m : ℕ) → replyOf q ≡ wrote m → 256 + m < 2 ^ 64) → Fits w64 (256 + n)
+unfolding replyOf
+wrote-fits q n e h = record { fits = h n (rw e) }
 
 -- a length, told as 256 more, is that reply as one number
 pub code-wrote : (q : Said) (n : ℕ) → q ≡ Wrote n → 256 + n ≡ code (replyOf q)

@@ -1,18 +1,19 @@
 -- What follows from the promises of the library's functions. Assumes nothing.
-use Prim.Native.Nat.{ℕ, _+_, _≤_, _<_}
+use Prim.Native.Nat.{ℕ, _+_, _-_, _*_, _/_, _%_, _≤_, _<_}
 use mathlib.Core.Path.{_≡_, refl, sym, ap, _∙_}
 use mathlib.Core.Logic.{_↔_}
-use mathlib.Core.Bool.{Bool, true, false, cond}
+use mathlib.Core.Bool.{Bool, true, false}
 use mathlib.Core.List.{List}
 use native.Mathlib.Omega.{arith}
 use borrow.Author.Tests.{leb-true}
 use lib.ListN.{length}
 use Rattle.floor.specs.Jobs.{writeJob, rawStar}
-use Rattle.floor.specs.Plans.{writePlan}
-use Rattle.floor.specs.Calls.{Board, empty, holding, Call, loads, turns, shares, writesJob, writesPlan, Reply, refusal, done, spans, says, wrote}
-use Rattle.floor.specs.Calls.{Step, lent, refuse, asks, writes, step}
+use Rattle.floor.specs.Plans.{Touch, clear, wall, writePlan}
+use Rattle.floor.specs.Calls.{Board, empty, holding, Call, loads, turns, touches, writesJob, writesPlan, Reply, refusal, done, spans, touch, wrote}
+use Rattle.floor.specs.Calls.{Step, lent, refuse, asks, writes, touching, step}
 use Rattle.floor.specs.Calls.Effects.{refused-leaves}
-use Rattle.floor.specs.Tracker.{behind, then, planOfJob, turnedOfJob, shareOfJob, starOfJob, code}
+use Rattle.floor.specs.Tracker.{behind, then, planOfJob, turnedOfJob, touchOfJob, starOfJob, touchCode, code}
+use Rattle.floor.specs.Tracker.Codes.{Fair, touch-code, touching-fair}
 use Rattle.tirunoiwa.proofs.Numbers.{same-refusal, Numbered, step-numbered, writes-told}
 use Rattle.tirunoiwa.proofs.Calling.{then-any, then-numbered}
 
@@ -39,9 +40,9 @@ module _ (bs buf : List ℕ) (r t : ℕ) (x y : List ℕ) where
   pub one-star : (room : ℕ) → Promised (starOfJob bs room buf) r x → Promised (starOfJob bs room buf) t y → (r ≡ t) × (x ≡ y)
   one-star room = one (starOfJob bs room buf) r t x y
 
--- THE PROMISE OF `tirunoiwa_share` ALLOWS ONE ANSWER
-pub one-share : (bs : List ℕ) (u v r t : ℕ) → r ≡ code (shareOfJob bs u v .reply) → t ≡ code (shareOfJob bs u v .reply) → r ≡ t
-one-share bs u v r t p q = p ∙ sym q
+-- THE PROMISE OF `tirunoiwa_touch` ALLOWS ONE ANSWER
+pub one-touch : (bs : List ℕ) (u v r t : ℕ) → r ≡ code (touchOfJob bs u v .reply) → t ≡ code (touchOfJob bs u v .reply) → r ≡ t
+one-touch bs u v r t p q = p ∙ sym q
 
 -- ---- how an answer is read
 
@@ -55,42 +56,45 @@ pub record TellsLength (a : ℕ) (r : Reply) : Type 0 where
   pub refusals : Refusals a r
   pub length : (n : ℕ) → (r ≡ wrote n) ↔ (a ≡ 256 + n)
 
--- from 256 on an answer tells yes or no
-pub record TellsYes (a : ℕ) (r : Reply) : Type 0 where
+-- from 256 on an answer tells a touch: one number, one touch, and its side and length are read off the number
+pub record TellsTouch (a : ℕ) (r : Reply) : Type 0 where
   pub refusals : Refusals a r
-  pub yes : (t : Bool) → (r ≡ says t) ↔ (a ≡ 256 + cond t 1 0)
+  pub touched : (t : Touch) → Fair t → (r ≡ touch t) ↔ (a ≡ 256 + touchCode t)
+  pub none : (r ≡ touch clear) ↔ (a ≡ 256)
+  pub side : (k n : ℕ) → r ≡ touch (wall k n) → (a - 256) % 4 ≡ k
+  pub length : (k n : ℕ) → r ≡ touch (wall k n) → (a - 256) / 4 ≡ n
 
 -- a refusal, or a length
 abbrev Lengths : Reply → Type 0
 Lengths (refusal k) = Unit {0}
 Lengths done = ⊥
 Lengths (spans r) = ⊥
-Lengths (says t) = ⊥
+Lengths (touch t) = ⊥
 Lengths (wrote n) = Unit {0}
 
--- a refusal, or yes or no
-abbrev YesNo : Reply → Type 0
-YesNo (refusal k) = Unit {0}
-YesNo done = ⊥
-YesNo (spans r) = ⊥
-YesNo (says t) = Unit {0}
-YesNo (wrote n) = ⊥
+-- a refusal, or a touch that can be
+abbrev Fairly : Reply → Type 0
+Fairly (refusal k) = Unit {0}
+Fairly done = ⊥
+Fairly (spans r) = ⊥
+Fairly (touch t) = Fair t
+Fairly (wrote n) = ⊥
 
 -- a refusal is no length
 no-wrote : {X : Type 0} {k n : ℕ} → refusal k ≡ wrote n → X
 no-wrote e = let z : _≡_ {A = ℕ} 0 1 = cc in absurd (omega arith)
 
--- a refusal is neither yes nor no
-no-says : {X : Type 0} {k : ℕ} {t : Bool} → refusal k ≡ says t → X
-no-says e = let z : _≡_ {A = ℕ} 0 1 = cc in absurd (omega arith)
+-- a refusal is no touch
+no-touch : {X : Type 0} {k : ℕ} {t : Touch} → refusal k ≡ touch t → X
+no-touch e = let z : _≡_ {A = ℕ} 0 1 = cc in absurd (omega arith)
 
 -- replies of a length that are equal tell one length
 same-wrote : {k l : ℕ} → wrote k ≡ wrote l → k ≡ l
 same-wrote e = cc
 
--- replies of yes or no that are equal tell the same
-same-says : {t s : Bool} → says t ≡ says s → t ≡ s
-same-says e = cc
+-- replies of a touch that are equal tell one touch
+same-touch : {t s : Touch} → touch t ≡ touch s → t ≡ s
+same-touch e = cc
 
 module _ (k : ℕ) (n : Numbered (refusal k)) where
   -- a refusal with a number from 1 to 14 is read as that refusal
@@ -108,26 +112,40 @@ unfolding code
 tells-length (refusal k) n w = record { refusals = a-refusal k n; length = λ m. ((λ e. no-wrote e), λ e. absurd (omega (arith, n .1, e))) }
 tells-length done n w = absurd w
 tells-length (spans r) n w = absurd w
-tells-length (says t) n w = absurd w
+tells-length (touch t) n w = absurd w
 tells-length (wrote l) n w = record {
   refusals = not-refused (wrote l) (omega arith) (λ k e. no-wrote e);
   length = λ m. ((λ e. ap (λ (k : ℕ). 256 + k) (same-wrote e)), λ e. ap wrote (omega (arith, e)));
 }
 
--- a refusal, or yes or no, is read as what it is
-tells-yes : (r : Reply) → Numbered r → YesNo r → TellsYes (code r) r
-unfolding code
-tells-yes (refusal k) n w = record { refusals = a-refusal k n; yes = λ t. ((λ e. no-says e), λ e. absurd (omega (arith, n .1, e))) }
-tells-yes done n w = absurd w
-tells-yes (spans r) n w = absurd w
-tells-yes (says t) n w = record { refusals = not-refused (says t) (omega arith) (λ k e. no-says e); yes = λ s. ((λ e. rw (same-says e)), λ e. ap says (same-bit t s e)) }
+-- a refusal, or a touch, is read as what it is
+tells-touch : (r : Reply) → Numbered r → Fairly r → TellsTouch (code r) r
+unfolding code touchCode
+tells-touch (refusal k) n w = record {
+  refusals = a-refusal k n;
+  touched = λ t f. ((λ e. no-touch e), λ e. absurd (omega (arith, n .1, e)));
+  none = ((λ e. no-touch e), λ e. absurd (omega (arith, n .1, e)));
+  side = λ k n e. no-touch e;
+  length = λ k n e. no-touch e;
+}
+tells-touch done n w = absurd w
+tells-touch (spans r) n w = absurd w
+tells-touch (touch t) n w = record {
+  refusals = not-refused (touch t) (omega arith) (λ k e. no-touch e);
+  touched = read;
+  none = read clear tt;
+  side = λ k n e. parts k n (same-touch e) w .0;
+  length = λ k n e. parts k n (same-touch e) w .1;
+}
   where
-    same-bit : (t s : Bool) → 256 + cond t 1 0 ≡ 256 + cond s 1 0 → t ≡ s
-    same-bit true true e = refl
-    same-bit true false e = absurd (omega (arith, e))
-    same-bit false true e = absurd (omega (arith, e))
-    same-bit false false e = refl
-tells-yes (wrote l) n w = absurd w
+    read : (s : Touch) → Fair s → (touch t ≡ touch s) ↔ (256 + touchCode t ≡ 256 + touchCode s)
+    read s f = ((λ e. ap (λ (x : Touch). 256 + touchCode x) (same-touch e)), λ e. ap touch (touch-code t s w f (omega (arith, e))))
+
+    parts : (k n : ℕ) → t ≡ wall k n → Fair t → ((256 + touchCode t - 256) % 4 ≡ k) × ((256 + touchCode t - 256) / 4 ≡ n)
+    parts k n e f =
+        let (l, h) : Fair (wall k n) = rw e at f in
+        rw e (omega (arith, l), omega (arith, l))
+tells-touch (wrote l) n w = absurd w
 
 -- a writing is answered by a refusal or a length
 writes-lengths : (b : Board) (t : Bool) (bs buf : List ℕ) → Lengths (writes b t bs buf .reply)
@@ -167,19 +185,19 @@ module _ (bs : List ℕ) where
     unfolding starOfJob
     star-tells room = tells-length _ (writes-told empty _ (rawStar bs room) buf (leb-true (length (rawStar bs room)) (length buf)) .0) (writes-lengths empty _ (rawStar bs room) buf)
 
-  -- THE ANSWER OF `tirunoiwa_share`, READ
-  pub share-tells : (u v : ℕ) → TellsYes (code (shareOfJob bs u v .reply)) (shareOfJob bs u v .reply)
-  unfolding shareOfJob
-  share-tells u v = tells-yes _ (then-numbered (step empty (loads bs)) (shares u v) loaded)
-      (then-any (step empty (loads bs)) (shares u v) YesNo answers (λ k e. tt))
+  -- THE ANSWER OF `tirunoiwa_touch`, READ
+  pub touch-tells : (u v : ℕ) → TellsTouch (code (touchOfJob bs u v .reply)) (touchOfJob bs u v .reply)
+  unfolding touchOfJob
+  touch-tells u v = tells-touch _ (then-numbered (step empty (loads bs)) (touches u v) loaded)
+      (then-any (step empty (loads bs)) (touches u v) Fairly answers (λ k e. tt))
     where
-      asked : (b : Board) (q t : Bool) → YesNo (asks b q (says t) .reply)
-      asked b true t = unfold asks in tt
-      asked b false t = unfold asks refuse in tt
+      asked : (b : Board) (q : Bool) (t : Touch) → Fair t → Fairly (asks b q (touch t) .reply)
+      asked b true t f = unfold asks in f
+      asked b false t f = unfold asks refuse in tt
 
-      answers : (b : Board) → YesNo (step b (shares u v) .reply)
+      answers : (b : Board) → Fairly (step b (touches u v) .reply)
       answers empty = unfold step refuse in tt
-      answers (holding j p) = unfold step in asked (holding j p) _ _
+      answers (holding j p) = unfold step in asked (holding j p) _ (touching p u v) (touching-fair p u v)
 
 -- ---- a refusal leaves every byte of the buffer
 
@@ -189,7 +207,7 @@ unfolding behind refuse
 behind-leaves (refusal l) b c k e = refl
 behind-leaves done b c k e = refused-leaves b c k e .same-buffer
 behind-leaves (spans r) b c k e = refused-leaves b c k e .same-buffer
-behind-leaves (says t) b c k e = refused-leaves b c k e .same-buffer
+behind-leaves (touch t) b c k e = refused-leaves b c k e .same-buffer
 behind-leaves (wrote n) b c k e = refused-leaves b c k e .same-buffer
 
 module _ (bs buf : List ℕ) (k : ℕ) where

@@ -1,7 +1,7 @@
 // The planner for other programs: plain functions over a job's bytes. No board is kept between two calls.
 ghost use mathlib.Core.Path.{_≡_};
 ghost use Rattle.floor.specs.Calls.{empty, loads, step};
-ghost use Rattle.floor.specs.Tracker.{planOfJob, turnedOfJob, shareOfJob, starOfJob, code};
+ghost use Rattle.floor.specs.Tracker.{planOfJob, turnedOfJob, touchOfJob, starOfJob, code};
 ghost use Rattle.tirunoiwa.specs.Left.{Left};
 use board::Board;
 
@@ -87,17 +87,17 @@ pub extern "C" fn tirunoiwa_star(job: &[u8], room: usize, out: &mut [u8]) -> usi
     FIRST_VALUE + length
 }
 
-// Whether two vertices of a job share a wall length of at least 1.
+// How two vertices of a job touch, as one number: the side on which v stands, seen from u, and the length of wall they share.
 #[no_mangle]
-pub extern "C" fn tirunoiwa_share(job: &[u8], u: usize, v: usize) -> usize
-    ensures { λ r. ⌜ r ≡ code (shareOfJob (now (job .entry)) u v .reply) ⌝ }
+pub extern "C" fn tirunoiwa_touch(job: &[u8], u: usize, v: usize) -> usize
+    ensures { λ r. ⌜ r ≡ code (touchOfJob (now (job .entry)) u v .reply) ⌝ }
 {
     let loaded = load(job);
     if loaded.answer < FIRST_VALUE {
         return loaded.answer;
     }
     let held = loaded.board;
-    let said = held.shares(u, v);
-    let reply = said.reply;
+    let told = held.touches(u, v);
+    let reply = told.reply;
     answer::code_of(reply)
 }

@@ -224,7 +224,9 @@ fn reference_once(case: &Case) -> (f64, u64) {
             What::Question => {
                 let at = (left % VERTICES) as usize;
                 mark(board.rectangle(at), |rect| rect.x2 as u64)
-                    + mark(board.share(u, at), u64::from)
+                    + mark(board.touch(u, at), |touch| {
+                        touch.map_or(0, |touch| touch.length as u64)
+                    })
             }
         };
     }

@@ -1,4 +1,4 @@
-//! Puts many jobs and calls to the reference and to the built programs `calls`, `listing` and `draw`, and compares every line.
+//! Puts many jobs and calls to the reference and to the built programs `calls`, `listing`, `doors` and `draw`, and compares every line.
 
 mod alone;
 mod circle;
@@ -17,7 +17,7 @@ mod table;
 mod tests;
 
 use floors::Chance;
-use planner::{hex, listing_text};
+use planner::{hex, OneJob};
 use programs::UnderTest;
 use reference::Board;
 use shrink::{both_texts, first_difference, Shrinker};
@@ -27,7 +27,7 @@ use streams::{make_stream, Budget};
 use table::Table;
 
 const USAGE: &str = "differ [--short | --long] [--seed N] [--jobs N] [--calls N] [--pairs N] \
-    [--listings N] [--pictures N] [--runner PATH] [--slip NAME] [--reference]";
+    [--listings N] [--doors N] [--pictures N] [--runner PATH] [--slip NAME] [--reference]";
 
 struct Options {
     seed: u64,
@@ -35,6 +35,7 @@ struct Options {
     calls: usize,
     pairs: usize,
     listings: usize,
+    doors: usize,
     pictures: usize,
     under_test: UnderTest,
 }
@@ -46,18 +47,20 @@ fn main() -> ExitCode {
     };
     let begun = Instant::now();
     println!(
-        "seed {}, {} jobs, {} other calls, {} pairs of starts, {} listings, {} pictures",
+        "seed {}, {} jobs, {} other calls, {} pairs of starts, {} listings, {} lists of doors, {} pictures",
         options.seed,
         options.jobs,
         options.calls,
         options.pairs,
         options.listings,
+        options.doors,
         options.pictures
     );
     let mut table = Table::default();
     let same = compare_calls(&options, &mut table)
         && compare_pairs(&options, &mut table)
-        && compare_listings(&options, &mut table)
+        && compare_told(&options, OneJob::Listing, options.listings, &mut table)
+        && compare_told(&options, OneJob::Doors, options.doors, &mut table)
         && compare_pictures(&options, &mut table);
     table.print();
     println!(
@@ -81,6 +84,7 @@ fn read_options() -> Option<Options> {
         calls: 50_000,
         pairs: 1_000,
         listings: 300,
+        doors: 300,
         pictures: 200,
         under_test: UnderTest::Runner("../bin/run".to_string()),
     };
@@ -91,13 +95,15 @@ fn read_options() -> Option<Options> {
             "--long" => {
                 (options.jobs, options.calls) = (400_000, 600_000);
                 options.pairs = 10_000;
-                (options.listings, options.pictures) = (3_000, 2_000);
+                (options.listings, options.doors) = (3_000, 3_000);
+                options.pictures = 2_000;
             }
             "--seed" => options.seed = words.next()?.parse().ok()?,
             "--jobs" => options.jobs = words.next()?.parse().ok()?,
             "--calls" => options.calls = words.next()?.parse().ok()?,
             "--pairs" => options.pairs = words.next()?.parse().ok()?,
             "--listings" => options.listings = words.next()?.parse().ok()?,
+            "--doors" => options.doors = words.next()?.parse().ok()?,
             "--pictures" => options.pictures = words.next()?.parse().ok()?,
             "--runner" => options.under_test = UnderTest::Runner(words.next()?),
             "--reference" => options.under_test = UnderTest::Reference,
@@ -162,16 +168,16 @@ fn compare_pairs(options: &Options, table: &mut Table) -> bool {
     unlike.is_none()
 }
 
-/// One process a job, so only a sample, with lengths about the listing program's limit among them.
-fn compare_listings(options: &Options, table: &mut Table) -> bool {
-    let mut chance = Chance::new(options.seed ^ 0x6C69_7374);
-    for round in 0..options.listings {
+/// One process a job, so only a sample, with lengths about the program's limit among them.
+fn compare_told(options: &Options, program: OneJob, rounds: usize, table: &mut Table) -> bool {
+    let mut chance = Chance::new(options.seed ^ program.salt());
+    for round in 0..rounds {
         let job = listing_job(&mut chance, round);
-        let expected = listing_text(&mut Board::empty(), &job);
-        let found = options.under_test.listing(&job);
-        table.count_listing(&expected);
+        let expected = program.text(&mut Board::empty(), &job);
+        let found = options.under_test.told(program, &job);
+        table.count_told(program, &expected);
         if expected != found {
-            println!("difference in a listing of {} bytes:", job.len());
+            println!("difference in {} of {} bytes:", program.name(), job.len());
             println!("  {}", hex(&job));
             println!("reference:\n{expected}program:\n{found}");
             return false;
@@ -185,7 +191,7 @@ fn compare_pictures(options: &Options, table: &mut Table) -> bool {
     let mut chance = Chance::new(options.seed ^ 0x6472_6177);
     for round in 0..options.pictures {
         let job = listing_job(&mut chance, round);
-        let expected = listing_text(&mut Board::empty(), &job);
+        let expected = OneJob::Listing.text(&mut Board::empty(), &job);
         table.count_picture(&expected);
         let name = picture_name(&mut chance);
         let shown = options.under_test.picture(&name, &job);
@@ -215,7 +221,8 @@ fn picture_name(chance: &mut Chance) -> Vec<u8> {
     name
 }
 
-fn listing_job(chance: &mut Chance, round: usize) -> Vec<u8> {
+/// Half of them floors that are accepted; every fifth of a length about the limit.
+pub fn listing_job(chance: &mut Chance, round: usize) -> Vec<u8> {
     const LENGTHS: [usize; 9] = [
         8_190, 8_191, 8_192, 8_193, 8_194, 9_000, 16_384, 65_536, 300_000,
     ];

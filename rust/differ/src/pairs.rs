@@ -2,7 +2,7 @@
 //! its own answers are held against each other, whatever the reference says.
 
 use crate::damage::job_of_stars;
-use crate::planner::{hex, LOAD, TURN, WRITE_JOB, WRITE_PLAN};
+use crate::planner::{hex, OneJob, LOAD, TURN, WRITE_JOB, WRITE_PLAN};
 use crate::programs::UnderTest;
 use crate::streams::{call, four, two};
 use crate::table::Table;
@@ -208,8 +208,8 @@ impl Pair {
     }
 
     fn judge_listings(&self, under_test: &UnderTest) -> Result<(), String> {
-        let one = under_test.listing(&self.job.bytes());
-        same(&one, &under_test.listing(&self.other().bytes()))
+        let listed = |job: &Job| under_test.told(OneJob::Listing, &job.bytes());
+        same(&listed(&self.job), &listed(&self.other()))
     }
 
     fn told(&self, why: &str) -> String {

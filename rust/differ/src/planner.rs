@@ -1,27 +1,29 @@
-//! What the calls and listing programs must print, worked out with any planner: the reference, or one with a slip.
+//! What the calls program and the programs of one job must print, worked out with any planner: the reference, or one with a slip.
 
-use reference::drawing::Rectangle;
+use reference::doors::Door;
+use reference::drawing::{Rectangle, Touch};
 use reference::fields::{Field, Reader};
 use reference::{Board, Refusal};
 
 pub const LOAD: u8 = 32;
 pub const TURN: u8 = 33;
 pub const RECTANGLE: u8 = 34;
-pub const SHARE: u8 = 35;
+pub const TOUCH: u8 = 35;
 pub const WRITE_JOB: u8 = 36;
 pub const WRITE_PLAN: u8 = 37;
 pub const STAR: u8 = 38;
 
 pub const LARGEST_BUFFER: usize = 2_048;
-pub const LONGEST_LISTING: usize = 8_192;
+pub const LONGEST_JOB: usize = 8_192;
 const UNTOUCHED: u8 = 0xAA;
 
-/// The calls of document 01.
+/// The calls of document 01, and what the programs of one job ask besides.
 pub trait Planner {
     fn load(&mut self, bytes: &[u8]) -> Result<(usize, usize), Refusal>;
     fn turn(&mut self, one: usize, other: usize) -> Result<(usize, usize), Refusal>;
     fn rectangle(&self, vertex: usize) -> Result<Rectangle, Refusal>;
-    fn share(&self, one: usize, other: usize) -> Result<bool, Refusal>;
+    fn touch(&self, one: usize, other: usize) -> Result<Option<Touch>, Refusal>;
+    fn doors(&self) -> Result<Vec<Door>, Refusal>;
     fn write_job(&self, buffer: &mut [u8]) -> Result<usize, Refusal>;
     fn write_plan(&self, buffer: &mut [u8]) -> Result<usize, Refusal>;
     fn star<'a>(&self, bytes: &'a [u8], room: usize) -> &'a [u8];
@@ -37,8 +39,11 @@ impl Planner for Board {
     fn rectangle(&self, vertex: usize) -> Result<Rectangle, Refusal> {
         Board::rectangle(self, vertex)
     }
-    fn share(&self, one: usize, other: usize) -> Result<bool, Refusal> {
-        Board::share(self, one, other)
+    fn touch(&self, one: usize, other: usize) -> Result<Option<Touch>, Refusal> {
+        Board::touch(self, one, other)
+    }
+    fn doors(&self) -> Result<Vec<Door>, Refusal> {
+        Board::doors(self)
     }
     fn write_job(&self, buffer: &mut [u8]) -> Result<usize, Refusal> {
         Board::write_job(self, buffer)
@@ -62,7 +67,7 @@ pub struct Answer {
 pub enum Outcome {
     Accepted,
     Refused(u8),
-    /// The star question has no refusals, only an empty stretch.
+    /// Nothing to tell: a star that is an empty stretch, or no shared wall.
     Empty,
 }
 
@@ -111,11 +116,9 @@ fn answer_call(planner: &mut dyn Planner, field: Field) -> Option<Answer> {
                 format!("{} {} {} {}", r.x1, r.y1, r.x2, r.y2)
             })
         }
-        SHARE => {
+        TOUCH => {
             let [one, other] = numbers(field.value)?;
-            refused_or(planner.share(one, other), |shared| {
-                (if shared { "yes" } else { "no" }).to_string()
-            })
+            touched(planner.touch(one, other))
         }
         WRITE_JOB | WRITE_PLAN => {
             let [size] = numbers(field.value)?;
@@ -147,15 +150,27 @@ fn numbers<const COUNT: usize>(value: &[u8]) -> Option<[usize; COUNT]> {
     Some(all)
 }
 
+fn refused(Refusal(number): Refusal) -> (Outcome, String) {
+    (Outcome::Refused(number), format!("refused {number}"))
+}
+
 fn refused_or<T>(answer: Result<T, Refusal>, shown: impl FnOnce(T) -> String) -> (Outcome, String) {
     match answer {
         Ok(value) => (Outcome::Accepted, shown(value)),
-        Err(Refusal(number)) => (Outcome::Refused(number), format!("refused {number}")),
+        Err(refusal) => refused(refusal),
     }
 }
 
 fn sheet(answer: Result<(usize, usize), Refusal>) -> (Outcome, String) {
     refused_or(answer, |(width, height)| format!("sheet {width} {height}"))
+}
+
+fn touched(answer: Result<Option<Touch>, Refusal>) -> (Outcome, String) {
+    match answer {
+        Ok(Some(Touch { side, length })) => (Outcome::Accepted, format!("touch {side} {length}")),
+        Ok(None) => (Outcome::Empty, "none".to_string()),
+        Err(refusal) => refused(refusal),
+    }
 }
 
 fn written(planner: &mut dyn Planner, tag: u8, size: usize) -> Option<(Outcome, String)> {
@@ -173,23 +188,60 @@ fn written(planner: &mut dyn Planner, tag: u8, size: usize) -> Option<(Outcome, 
     }))
 }
 
-/// All that the listing program prints for a job.
-pub fn listing_text(planner: &mut dyn Planner, bytes: &[u8]) -> String {
-    if bytes.len() > LONGEST_LISTING {
-        return "input too long\n".to_string();
+/// A program that reads one job.
+#[derive(Clone, Copy, Debug, PartialEq, Eq)]
+pub enum OneJob {
+    Listing,
+    Doors,
+}
+
+impl OneJob {
+    /// The program's name.
+    pub fn name(self) -> &'static str {
+        match self {
+            OneJob::Listing => "listing",
+            OneJob::Doors => "doors",
+        }
     }
-    let answer = planner.load(bytes);
-    let mut text = sheet(answer).1;
-    text.push('\n');
-    let mut vertex = 0;
-    while answer.is_ok() {
-        let Ok(r) = planner.rectangle(vertex) else {
-            break;
-        };
-        text.push_str(&format!("{vertex} {} {} {} {}\n", r.x1, r.y1, r.x2, r.y2));
-        vertex += 1;
+
+    /// Its first four letters as a number, so that each program gets jobs of its own from one seed.
+    pub fn salt(self) -> u64 {
+        let letters = self.name().bytes().take(4);
+        letters.fold(0, |sum, letter| sum * 256 + u64::from(letter))
     }
-    text
+
+    /// All that the program prints for a job.
+    pub fn text(self, planner: &mut dyn Planner, bytes: &[u8]) -> String {
+        if bytes.len() > LONGEST_JOB {
+            return "input too long\n".to_string();
+        }
+        let answer = planner.load(bytes);
+        if answer.is_err() {
+            return sheet(answer).1 + "\n";
+        }
+        match self {
+            OneJob::Listing => sheet(answer).1 + "\n" + &rectangle_lines(planner),
+            OneJob::Doors => refused_or(planner.doors(), |doors| door_lines(&doors)).1,
+        }
+    }
+}
+
+/// The rectangles of all vertices: there is none behind the last.
+fn rectangle_lines(planner: &dyn Planner) -> String {
+    let all = (0..).map_while(|vertex| Some((vertex, planner.rectangle(vertex).ok()?)));
+    all.map(|(vertex, r)| format!("{vertex} {} {} {} {}\n", r.x1, r.y1, r.x2, r.y2))
+        .collect()
+}
+
+fn door_lines(doors: &[Door]) -> String {
+    let line = |door: &Door| {
+        let Touch { side, length } = door.touch;
+        format!(
+            "{} {} {side} {} {} {length}\n",
+            door.u, door.v, door.from, door.to
+        )
+    };
+    doors.iter().map(line).collect()
 }
 
 pub fn hex(bytes: &[u8]) -> String {

@@ -1,7 +1,7 @@
 //! The planner under test: the built programs, or, to try the comparison itself, a planner with a known slip or with none.
 
 use crate::picture::with_name;
-use crate::planner::{calls_text, listing_text};
+use crate::planner::{calls_text, OneJob};
 use crate::slips::{Slip, SlippedBoard};
 use reference::Board;
 use std::io::{Read, Write};
@@ -28,11 +28,12 @@ impl UnderTest {
         }
     }
 
-    pub fn listing(&self, job: &[u8]) -> String {
+    /// What a program of one job prints.
+    pub fn told(&self, program: OneJob, job: &[u8]) -> String {
         match self {
-            UnderTest::Runner(path) => run(path, "listing", job),
-            UnderTest::Slipped(slip) => listing_text(&mut SlippedBoard::empty(*slip), job),
-            UnderTest::Reference => listing_text(&mut Board::empty(), job),
+            UnderTest::Runner(path) => run(path, program.name(), job),
+            UnderTest::Slipped(slip) => program.text(&mut SlippedBoard::empty(*slip), job),
+            UnderTest::Reference => program.text(&mut Board::empty(), job),
         }
     }
 
@@ -41,7 +42,7 @@ impl UnderTest {
         match self {
             UnderTest::Runner(path) if name.is_empty() => run(path, "draw", job),
             UnderTest::Runner(path) => run(path, "draw", &with_name(name, job)),
-            UnderTest::Slipped(_) | UnderTest::Reference => self.listing(job),
+            UnderTest::Slipped(_) | UnderTest::Reference => self.told(OneJob::Listing, job),
         }
     }
 }

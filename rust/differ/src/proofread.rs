@@ -1,8 +1,8 @@
 //! Demand 3 held against the reference itself, cell by cell, so that a comparison with it means something.
 
-use reference::drawing::{share_wall, within_bound, Plan};
+use reference::drawing::{touch, within_bound, Plan, Touch};
 use reference::job::{Entry, Job};
-use reference::{ABOVE, BELOW, EAST, LEFT, NORTH, SOUTH, WEST};
+use reference::{ABOVE, BELOW, EAST, LEFT, NORTH, RIGHT, SOUTH, WEST};
 
 /// What is wrong with a held plan, if anything is.
 pub fn plan_fault(job: &Job, plan: &Plan) -> Option<&'static str> {
@@ -20,6 +20,11 @@ pub fn plan_fault(job: &Job, plan: &Plan) -> Option<&'static str> {
     }
     if !contacts_are_walls(job, plan) {
         return Some("contacts and shared walls are not the same");
+    }
+    if !touches_are_counted(plan, &cells) {
+        return Some(
+            "a shared wall is not as long as the cells that lie along it, or not on that side",
+        );
     }
     if !job
         .rooms()
@@ -67,9 +72,48 @@ fn contacts_are_walls(job: &Job, plan: &Plan) -> bool {
     (0..job.vertices()).all(|a| {
         (a + 1..job.vertices()).all(|b| {
             let wanted = job.joins(a, b) || frame.contains(&(a, b));
-            wanted == share_wall(&plan.rectangles[a], &plan.rectangles[b])
+            wanted == touch(&plan.rectangles[a], &plan.rectangles[b]).is_some()
         })
     })
+}
+
+/// Every pair, both ways round, touches as its cells do that lie side by side or one over the other.
+fn touches_are_counted(plan: &Plan, cells: &[Option<usize>]) -> bool {
+    let vertices = plan.rectangles.len();
+    let counted = counted_touches(plan, cells);
+    (0..vertices).all(|u| {
+        (0..vertices).all(|v| {
+            let said = touch(&plan.rectangles[u], &plan.rectangles[v]);
+            u == v || said == counted[u * vertices + v]
+        })
+    })
+}
+
+/// By the first vertex, then the second.
+fn counted_touches(plan: &Plan, cells: &[Option<usize>]) -> Vec<Option<Touch>> {
+    let cell = |x: usize, y: usize| cells[y * plan.width + x].expect("every cell is painted");
+    let vertices = plan.rectangles.len();
+    let mut all: Vec<Option<Touch>> = vec![None; vertices * vertices];
+    // One edge of two cells more.
+    let mut count = |one: usize, other: usize, side: u8| {
+        if one != other {
+            let touch = all[one * vertices + other].get_or_insert(Touch { side, length: 0 });
+            touch.length += 1;
+        }
+    };
+    for y in 0..plan.height {
+        for x in 0..plan.width {
+            if x > 0 {
+                count(cell(x, y), cell(x - 1, y), LEFT);
+                count(cell(x - 1, y), cell(x, y), RIGHT);
+            }
+            if y > 0 {
+                count(cell(x, y), cell(x, y - 1), BELOW);
+                count(cell(x, y - 1), cell(x, y), ABOVE);
+            }
+        }
+    }
+    all
 }
 
 /// Each neighbour on the side its kind says, and the walk round the room, back to its start, meets them in the star's order.

@@ -2,11 +2,13 @@
 
 use crate::circle::{kinds_of, list, places};
 use crate::planner::Planner;
-use reference::drawing::{draw, faults, in_order, place, share_wall, Faults, Plan, Rectangle};
+use reference::doors::{doors_by, Door};
+use reference::drawing::{draw, faults, in_order, meet_only_at_a_corner, place, touch};
+use reference::drawing::{Faults, Plan, Rectangle, Touch};
 use reference::job::{changes, goes_on, nobody_twice, read_by, star_is_fit, Job, Star};
 use reference::turning::turned;
 use reference::walls::{number_walls, WallNumbers};
-use reference::{Board, Refusal, ABOVE, FIRST_ROOM, RIGHT};
+use reference::{Board, Refusal, ABOVE, BELOW, FIRST_ROOM, LEFT, RIGHT};
 
 #[derive(Clone, Copy, Debug, PartialEq, Eq)]
 pub enum Slip {
@@ -31,10 +33,20 @@ pub enum Slip {
     TurnRefuses,
     /// A frame side named in a turn is answered like a question.
     TurnAnswers13,
-    /// One vertex asked twice shares a wall with itself.
-    SharesWithItself,
-    /// One vertex asked twice is "no" before its number is looked at.
-    NoBefore13,
+    /// One vertex asked twice touches itself.
+    TouchesItself,
+    /// One vertex asked twice is "none" before its number is looked at.
+    NoneBefore13,
+    /// The side on which the first stands, seen from the second.
+    SeenFromSecond,
+    /// The length of the longer of the two walls.
+    LongerWall,
+    /// A corner is a wall of length 0, to the drawing test too.
+    CornerTouches,
+    /// Two that lie apart with sides on one line touch with length 0.
+    OneLineTouches,
+    /// Frame sides do not touch each other, as no job joins them.
+    FrameApart,
     /// Numbers cut to one byte.
     OneByteNumbers,
     /// The buffer behind the bytes is cleared.
@@ -65,7 +77,7 @@ pub enum Slip {
     OrderNotClosed,
 }
 
-pub const ALL: [Slip; 28] = [
+pub const ALL: [Slip; 33] = [
     Slip::RoomsOnly,
     Slip::AreaAlone,
     Slip::NoArea,
@@ -78,8 +90,13 @@ pub const ALL: [Slip; 28] = [
     Slip::TurnKeeps,
     Slip::TurnRefuses,
     Slip::TurnAnswers13,
-    Slip::SharesWithItself,
-    Slip::NoBefore13,
+    Slip::TouchesItself,
+    Slip::NoneBefore13,
+    Slip::SeenFromSecond,
+    Slip::LongerWall,
+    Slip::CornerTouches,
+    Slip::OneLineTouches,
+    Slip::FrameApart,
     Slip::OneByteNumbers,
     Slip::ClearsBehind,
     Slip::WantsOneMore,
@@ -104,6 +121,15 @@ pub const OF_STARTS: [Slip; 5] = [
     Slip::LastAsWritten,
     Slip::EntryMoved,
     Slip::OrderNotClosed,
+];
+
+/// Those that the doors show as well.
+#[cfg(test)]
+pub const OF_TOUCHES: [Slip; 4] = [
+    Slip::SeenFromSecond,
+    Slip::LongerWall,
+    Slip::CornerTouches,
+    Slip::OneLineTouches,
 ];
 
 pub struct SlippedBoard {
@@ -182,11 +208,23 @@ impl SlippedBoard {
             Slip::AreaAlone => found.overlap = false,
             Slip::NoArea => found.area = false,
             Slip::NoUnjoined => found.unjoined = false,
-            Slip::NoCorner => found.corner = false,
+            Slip::NoCorner | Slip::CornerTouches => found.corner = false,
             Slip::NoOrder => found.order = false,
             _ => {}
         }
         found
+    }
+
+    /// How two rectangles touch.
+    fn touching(&self, a: &Rectangle, b: &Rectangle) -> Option<Touch> {
+        let right = touch(a, b);
+        match self.slip {
+            Slip::SeenFromSecond => touch(b, a),
+            Slip::LongerWall => right.map(|touch| longer(a, b, touch)),
+            Slip::CornerTouches if meet_only_at_a_corner(a, b) => on_one_line(a, b),
+            Slip::OneLineTouches => right.or_else(|| on_one_line(a, b)),
+            _ => right,
+        }
     }
 
     fn number(&self, number: usize) -> usize {
@@ -251,6 +289,27 @@ fn in_order_as_written(job: &Job, plan: &Plan) -> bool {
     job.stars
         .iter()
         .all(|star| star.windows(2).all(|two| in_order(&two[0], &two[1], plan)))
+}
+
+/// The touch with the length of the longer wall.
+fn longer(a: &Rectangle, b: &Rectangle, touch: Touch) -> Touch {
+    let length = match touch.side {
+        LEFT | RIGHT => (a.y2 - a.y1).max(b.y2 - b.y1),
+        _ => (a.x2 - a.x1).max(b.x2 - b.x1),
+    };
+    Touch { length, ..touch }
+}
+
+/// A touch of length 0 where the second begins on a line on which the first ends.
+fn on_one_line(a: &Rectangle, b: &Rectangle) -> Option<Touch> {
+    let sides = [
+        (ABOVE, a.y2 == b.y1),
+        (LEFT, a.x1 == b.x2),
+        (BELOW, a.y1 == b.y2),
+        (RIGHT, a.x2 == b.x1),
+    ];
+    let &(side, _) = sides.iter().find(|(_, meet)| *meet)?;
+    Some(Touch { side, length: 0 })
 }
 
 /// Every entry where it stands, with the kind that the other job gives it.
@@ -349,16 +408,31 @@ impl Planner for SlippedBoard {
         found.ok_or(Refusal(13))
     }
 
-    fn share(&self, one: usize, other: usize) -> Result<bool, Refusal> {
+    fn touch(&self, one: usize, other: usize) -> Result<Option<Touch>, Refusal> {
         self.held()?;
-        if one == other && self.slip == Slip::NoBefore13 {
-            return Ok(false);
+        if one == other && self.slip == Slip::NoneBefore13 {
+            return Ok(None);
         }
         let (a, b) = (self.rectangle(one)?, self.rectangle(other)?);
-        if one == other && self.slip == Slip::SharesWithItself {
-            return Ok(true);
+        let (one, other) = (self.number(one), self.number(other));
+        let both_of_the_frame = one.max(other) < FIRST_ROOM;
+        if one == other && self.slip == Slip::TouchesItself {
+            let length = a.x2 - a.x1;
+            return Ok(Some(Touch {
+                side: ABOVE,
+                length,
+            }));
         }
-        Ok(self.number(one) != self.number(other) && share_wall(&a, &b))
+        if one == other || (both_of_the_frame && self.slip == Slip::FrameApart) {
+            return Ok(None);
+        }
+        Ok(self.touching(&a, &b))
+    }
+
+    fn doors(&self) -> Result<Vec<Door>, Refusal> {
+        let (_, plan) = self.held()?;
+        let touch = |u: usize, v: usize| self.touching(&plan.rectangles[u], &plan.rectangles[v]);
+        Ok(doors_by(plan, touch))
     }
 
     fn write_job(&self, buffer: &mut [u8]) -> Result<usize, Refusal> {

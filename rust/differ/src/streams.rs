@@ -2,7 +2,7 @@
 
 use crate::damage::any_job;
 use crate::planner::{
-    answer_stream, Outcome, LARGEST_BUFFER, LOAD, RECTANGLE, SHARE, STAR, TURN, WRITE_JOB,
+    answer_stream, Outcome, LARGEST_BUFFER, LOAD, RECTANGLE, STAR, TOUCH, TURN, WRITE_JOB,
     WRITE_PLAN,
 };
 use crate::proofread::plan_fault;
@@ -86,7 +86,7 @@ impl Maker {
         match chance.below(100) {
             0..=49 => self.turn(chance),
             50..=64 => call(RECTANGLE, &two(self.some_vertex(chance))),
-            65..=84 => self.share(chance),
+            65..=84 => self.touch(chance),
             85..=92 => self.writing(chance, WRITE_JOB),
             _ => self.writing(chance, WRITE_PLAN),
         }
@@ -206,17 +206,29 @@ impl Maker {
         contact
     }
 
-    fn share(&self, chance: &mut Chance) -> Vec<u8> {
-        let (one, other) = match chance.below(10) {
-            0..=3 => self.some_contact(chance),
-            4 => {
+    fn some_room(&self, chance: &mut Chance) -> usize {
+        let vertices = self.board.job().map_or(5, |job| job.vertices());
+        chance.between(FIRST_ROOM, vertices - 1)
+    }
+
+    /// Two that are joined, seen from either; one vertex twice; two frame sides, or one and a room; two rooms; any two.
+    fn touch(&self, chance: &mut Chance) -> Vec<u8> {
+        let (one, other) = match chance.below(12) {
+            0..=4 => self.some_contact(chance),
+            5 => {
                 let vertex = self.some_vertex(chance);
                 (vertex, vertex)
             }
-            5 => (chance.below(5), chance.below(5)),
+            6 => (chance.below(FIRST_ROOM), chance.below(FIRST_ROOM)),
+            7 => (chance.below(FIRST_ROOM), self.some_room(chance)),
+            8..=9 => (self.some_room(chance), self.some_room(chance)),
             _ => (self.some_vertex(chance), self.some_vertex(chance)),
         };
-        call(SHARE, &four(one, other))
+        if chance.percent(50) {
+            call(TOUCH, &four(one, other))
+        } else {
+            call(TOUCH, &four(other, one))
+        }
     }
 
     /// Buffers that just fit, that just do not, and any others.
@@ -277,7 +289,7 @@ fn breaking_tail(chance: &mut Chance) -> Vec<u8> {
             &four(4, 5)[..chance.below(5)],
         ),
         3 => call(
-            *chance.pick(&[TURN, SHARE]),
+            *chance.pick(&[TURN, TOUCH]),
             &[0, 4, 0, 5, 0, 6][..*chance.pick(&[0, 1, 2, 3, 5, 6])],
         ),
         4 => call(

@@ -1,6 +1,6 @@
 //! How often each answer was seen.
 
-use crate::planner::{Outcome, LOAD, RECTANGLE, SHARE, STAR, TURN, WRITE_JOB, WRITE_PLAN};
+use crate::planner::{OneJob, Outcome, LOAD, RECTANGLE, STAR, TOUCH, TURN, WRITE_JOB, WRITE_PLAN};
 use reference::drawing::Faults;
 use std::collections::BTreeMap;
 
@@ -13,7 +13,8 @@ pub struct Table {
     pub broken_streams: u64,
     /// Pairs of one job with two starts, by what came of both.
     pairs: BTreeMap<String, u64>,
-    listings: BTreeMap<String, u64>,
+    /// Programs of one job, by name and by what came of it.
+    told: BTreeMap<(&'static str, String), u64>,
     pictures: BTreeMap<String, u64>,
     pub turned_back: u64,
     pub plans_checked: u64,
@@ -23,7 +24,7 @@ const CALLS: [(u8, &str); 7] = [
     (LOAD, "load"),
     (TURN, "turn"),
     (RECTANGLE, "rectangle"),
-    (SHARE, "share"),
+    (TOUCH, "touch"),
     (WRITE_JOB, "write job"),
     (WRITE_PLAN, "write plan"),
     (STAR, "star"),
@@ -60,8 +61,9 @@ impl Table {
         *self.pairs.entry(name).or_default() += 1;
     }
 
-    pub fn count_listing(&mut self, text: &str) {
-        *self.listings.entry(first_words(text)).or_default() += 1;
+    pub fn count_told(&mut self, program: OneJob, text: &str) {
+        let key = (program.name(), first_words(text));
+        *self.told.entry(key).or_default() += 1;
     }
 
     pub fn count_picture(&mut self, text: &str) {
@@ -69,9 +71,11 @@ impl Table {
     }
 
     pub fn cases(&self) -> u64 {
-        let counts = [&self.pairs, &self.listings, &self.pictures];
-        let others = counts.into_iter().flat_map(BTreeMap::values);
-        self.seen.values().chain(others).sum()
+        let calls = self.seen.values().chain(self.told.values());
+        calls
+            .chain(self.pairs.values())
+            .chain(self.pictures.values())
+            .sum()
     }
 
     fn of(&self, tag: u8, outcome: Outcome) -> u64 {
@@ -101,6 +105,15 @@ impl Table {
         self.print_rest();
     }
 
+    fn by_program(&self) -> BTreeMap<&'static str, BTreeMap<String, u64>> {
+        let mut all: BTreeMap<_, BTreeMap<_, _>> = BTreeMap::new();
+        for ((program, outcome), count) in &self.told {
+            let of_program = all.entry(*program).or_default();
+            of_program.insert(outcome.clone(), *count);
+        }
+        all
+    }
+
     /// An item that never fails alone is not shown to be looked at.
     fn print_faults(&self) {
         println!("drawing test, loads refused by 9: item, failed at all, failed alone");
@@ -124,9 +137,11 @@ impl Table {
             "{} streams, {} of them broken; {} plans checked cell by cell; {} turns made again at once",
             self.streams, self.broken_streams, self.plans_checked, self.turned_back
         );
-        println!("pairs of starts: {}", told(&self.pairs));
-        println!("listings: {}", told(&self.listings));
-        println!("pictures: {}", told(&self.pictures));
+        println!("pairs of starts: {}", in_words(&self.pairs));
+        for (program, counts) in self.by_program() {
+            println!("{program}: {}", in_words(&counts));
+        }
+        println!("pictures: {}", in_words(&self.pictures));
         let never: Vec<String> = REFUSALS
             .into_iter()
             .filter(|&number| {
@@ -146,18 +161,18 @@ impl Table {
     }
 }
 
-/// What a listing comes to: accepted, or its one line.
+/// What a text comes to: its one line where it says why there is no more, else accepted.
 fn first_words(text: &str) -> String {
     let first = text.lines().next().unwrap_or("");
-    let name = if first.starts_with("sheet") {
-        "accepted"
-    } else {
+    let name = if first.starts_with("refused") || first == "input too long" {
         first
+    } else {
+        "accepted"
     };
     name.to_string()
 }
 
-fn told(counts: &BTreeMap<String, u64>) -> String {
+fn in_words(counts: &BTreeMap<String, u64>) -> String {
     let words: Vec<String> = counts
         .iter()
         .map(|(name, count)| format!("{name}: {count}"))

@@ -1,12 +1,14 @@
 //! The comparison tried on itself: every known slip is found and shrunk, and the reference agrees with itself.
 
 use crate::damage::finished_floor;
+use crate::listing_job;
 use crate::pairs::first_unlike;
 use crate::picture::listing_shown;
+use crate::planner::OneJob;
 use crate::programs::UnderTest;
 use crate::proofread::plan_fault;
 use crate::shrink::{both_texts, Shrinker};
-use crate::slips::{ALL, OF_STARTS};
+use crate::slips::{ALL, OF_STARTS, OF_TOUCHES};
 use crate::streams::{make_stream, Budget};
 use crate::table::Table;
 use floors::Chance;
@@ -55,6 +57,24 @@ fn a_slip_of_starts_is_found_without_the_reference() {
         assert!(found.is_some(), "{slip:?} is not found");
     }
     assert_eq!(unlike(UnderTest::Reference), None);
+}
+
+/// Whether a program of one job prints something else for some job.
+fn told_otherwise(under_test: &UnderTest, program: OneJob) -> bool {
+    let mut chance = Chance::new(11);
+    (0..500).any(|round| {
+        let job = listing_job(&mut chance, round);
+        under_test.told(program, &job) != program.text(&mut Board::empty(), &job)
+    })
+}
+
+#[test]
+fn a_slip_of_touches_is_found_in_the_doors() {
+    for slip in OF_TOUCHES {
+        let found = told_otherwise(&UnderTest::Slipped(slip), OneJob::Doors);
+        assert!(found, "{slip:?} is not found");
+    }
+    assert!(!told_otherwise(&UnderTest::Reference, OneJob::Doors));
 }
 
 #[test]

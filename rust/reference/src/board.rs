@@ -1,6 +1,7 @@
 //! The board: holds at most one job with its plan. A refusal leaves it, and the caller's buffer, as they were.
 
-use crate::drawing::{draw, share_wall, Plan, Rectangle};
+use crate::doors::{doors, Door};
+use crate::drawing::{draw, touch, Plan, Rectangle, Touch};
 use crate::job::{read, Job};
 use crate::turning::turned;
 use crate::{refusal, Refusal};
@@ -44,10 +45,14 @@ impl Board {
             .ok_or(refusal::NO_SUCH_VERTEX)
     }
 
-    /// Whether two vertices share a wall length of at least 1; one vertex asked twice does not.
-    pub fn share(&self, one: usize, other: usize) -> Result<bool, Refusal> {
+    /// The side on which the other stands, seen from the one, and the shared length; one vertex asked twice has none.
+    pub fn touch(&self, one: usize, other: usize) -> Result<Option<Touch>, Refusal> {
         let (a, b) = (self.rectangle(one)?, self.rectangle(other)?);
-        Ok(one != other && share_wall(&a, &b))
+        Ok(touch(&a, &b).filter(|_| one != other))
+    }
+
+    pub fn doors(&self) -> Result<Vec<Door>, Refusal> {
+        Ok(doors(&self.held()?.plan))
     }
 
     pub fn write_job(&self, buffer: &mut [u8]) -> Result<usize, Refusal> {

@@ -3,7 +3,7 @@
 use crate::fields::put_field;
 use crate::job::{round, Entry, Job};
 use crate::walls::{number_walls, WallNumbers};
-use crate::{refusal, Refusal, ABOVE, BELOW, EAST, FIRST_ROOM, LEFT, NORTH, SOUTH, WEST};
+use crate::{refusal, Refusal, ABOVE, BELOW, EAST, FIRST_ROOM, LEFT, NORTH, RIGHT, SOUTH, WEST};
 
 const TAG_SHEET: u8 = 3;
 const TAG_RECTANGLE: u8 = 4;
@@ -22,6 +22,13 @@ pub struct Plan {
     pub height: usize,
     /// In vertex order.
     pub rectangles: Vec<Rectangle>,
+}
+
+/// A wall that two rectangles share: the side on which the second stands, seen from the first, and how long it is.
+#[derive(Clone, Copy, Debug, PartialEq, Eq)]
+pub struct Touch {
+    pub side: u8,
+    pub length: usize,
 }
 
 /// Which items of the drawing test fail; several may at once.
@@ -101,7 +108,8 @@ pub fn faults(job: &Job, plan: &Plan) -> Faults {
         for (b, other) in plan.rectangles.iter().enumerate().skip(a + 1) {
             found.overlap |= share_a_cell(one, other);
             found.corner |= meet_only_at_a_corner(one, other);
-            found.unjoined |= share_wall(one, other) && !job.joins(a, b) && !frame_neighbours(a, b);
+            found.unjoined |=
+                touch(one, other).is_some() && !job.joins(a, b) && !frame_neighbours(a, b);
         }
     }
     found
@@ -140,12 +148,33 @@ fn share_a_cell(a: &Rectangle, b: &Rectangle) -> bool {
     across(a, b) >= 1 && upward(a, b) >= 1
 }
 
-/// A common wall length of at least 1.
-pub fn share_wall(a: &Rectangle, b: &Rectangle) -> bool {
-    (touch_sideways(a, b) && upward(a, b) >= 1) || (touch_up_or_down(a, b) && across(a, b) >= 1)
+/// The four sides of the first, each with whether the second begins on its line and how far the two lie side by side there.
+fn sides(a: &Rectangle, b: &Rectangle) -> [(u8, bool, usize); 4] {
+    [
+        (ABOVE, a.y2 == b.y1, across(a, b)),
+        (LEFT, a.x1 == b.x2, upward(a, b)),
+        (BELOW, a.y1 == b.y2, across(a, b)),
+        (RIGHT, a.x2 == b.x1, upward(a, b)),
+    ]
 }
 
-fn meet_only_at_a_corner(a: &Rectangle, b: &Rectangle) -> bool {
+/// The wall that the two share, if it is at least 1 long. Rectangles of at least a cell share on one side at most.
+pub fn touch(a: &Rectangle, b: &Rectangle) -> Option<Touch> {
+    sides(a, b)
+        .into_iter()
+        .find(|&(_, meet, length)| meet && length >= 1)
+        .map(|(side, _, length)| Touch { side, length })
+}
+
+/// Where a wall shared on this side begins and ends along its length: in y beside, in x above and below.
+pub fn stretch(a: &Rectangle, b: &Rectangle, side: u8) -> (usize, usize) {
+    match side {
+        LEFT | RIGHT => (a.y1.max(b.y1), a.y2.min(b.y2)),
+        _ => (a.x1.max(b.x1), a.x2.min(b.x2)),
+    }
+}
+
+pub fn meet_only_at_a_corner(a: &Rectangle, b: &Rectangle) -> bool {
     touch_sideways(a, b) && touch_up_or_down(a, b)
 }
 

@@ -1,8 +1,8 @@
 //! The floor examples of document 01, and a few facts the documents state in words.
 
-use crate::drawing::{within_bound, Rectangle};
+use crate::drawing::{stretch, touch, within_bound, Rectangle, Touch};
 use crate::job::{Entry, Job};
-use crate::{star, Board, Refusal};
+use crate::{opposite, star, Board, Refusal, ABOVE, BELOW, LEFT, RIGHT};
 
 const P1: &str = "01 00 01 01 02 00 08 00 00 01 01 02 02 03 03";
 const F: &str = "01 00 01 04 02 00 08 00 00 01 01 06 02 05 03 \
@@ -363,7 +363,8 @@ fn questions_and_writing_without_a_plan() {
     let mut buffer = [7u8; 4];
     assert_eq!(board.turn(0, 0), Err(Refusal(10)));
     assert_eq!(board.rectangle(99), Err(Refusal(10)));
-    assert_eq!(board.share(99, 99), Err(Refusal(10)));
+    assert_eq!(board.touch(99, 99), Err(Refusal(10)));
+    assert_eq!(board.doors(), Err(Refusal(10)));
     assert_eq!(board.write_job(&mut buffer), Err(Refusal(10)));
     assert_eq!(board.write_plan(&mut buffer), Err(Refusal(10)));
     assert_eq!(buffer, [7; 4]);
@@ -373,13 +374,158 @@ fn questions_and_writing_without_a_plan() {
 fn questions_of_f() {
     let board = loaded(&bytes(F));
     assert_eq!(board.rectangle(8), Err(Refusal(13)));
-    assert_eq!(board.share(8, 8), Err(Refusal(13)));
-    assert_eq!(board.share(4, 8), Err(Refusal(13)));
-    assert_eq!(board.share(4, 4), Ok(false));
-    assert_eq!(board.share(5, 6), Ok(true));
-    assert_eq!(board.share(4, 7), Ok(false));
-    assert_eq!(board.share(0, 1), Ok(true));
-    assert_eq!(board.share(0, 2), Ok(false));
+    assert_eq!(board.touch(8, 8), Err(Refusal(13)));
+    assert_eq!(board.touch(4, 8), Err(Refusal(13)));
+    assert_eq!(board.touch(300, 4), Err(Refusal(13)));
+    assert_eq!(board.touch(4, 4), Ok(None));
+    assert_eq!(board.touch(5, 6), shared(LEFT, 1));
+    assert_eq!(board.touch(6, 5), shared(RIGHT, 1));
+    assert_eq!(board.touch(4, 7), Ok(None));
+    assert_eq!(board.touch(1, 6), shared(RIGHT, 2));
+    assert_eq!(board.touch(0, 5), shared(BELOW, 1));
+}
+
+fn shared(side: u8, length: usize) -> Result<Option<Touch>, Refusal> {
+    Ok(Some(Touch { side, length }))
+}
+
+/// Frame sides answer as they lie: from W, N and S stand to the right; from N and S, W is left and E right.
+#[test]
+fn frame_sides_touch_their_neighbours() {
+    let mut turned = loaded(&bytes(F));
+    turned.turn(5, 6).expect("accepted");
+    for board in [
+        loaded(&bytes(P1)),
+        loaded(&bytes(F)),
+        turned,
+        loaded(&row(60)),
+    ] {
+        for lying in [0, 2] {
+            assert_eq!(board.touch(lying, 1), shared(LEFT, 1));
+            assert_eq!(board.touch(1, lying), shared(RIGHT, 1));
+            assert_eq!(board.touch(lying, 3), shared(RIGHT, 1));
+            assert_eq!(board.touch(3, lying), shared(LEFT, 1));
+        }
+        for apart in [(0, 2), (2, 0), (1, 3), (3, 1)] {
+            assert_eq!(board.touch(apart.0, apart.1), Ok(None));
+        }
+    }
+}
+
+/// Rooms 4 and 5 stand side by side over the full height; 6 lies over 7 to their right.
+fn two_columns_and_a_stack() -> Board {
+    loaded(&job(&[
+        &[(0, 0), (1, 1), (2, 2), (5, 3)],
+        &[(0, 0), (4, 1), (2, 2), (7, 3), (6, 3)],
+        &[(0, 0), (5, 1), (7, 2), (3, 3)],
+        &[(6, 0), (5, 1), (2, 2), (3, 3)],
+    ]))
+}
+
+/// W4: the shared stretch is neither wall as a whole.
+#[test]
+fn the_length_is_that_of_the_shared_stretch() {
+    let board = two_columns_and_a_stack();
+    assert_eq!(board.rectangle(5), at(2, 1, 3, 3));
+    assert_eq!(board.touch(4, 5), shared(RIGHT, 2));
+    assert_eq!(board.touch(5, 6), shared(RIGHT, 1));
+    assert_eq!(board.touch(6, 5), shared(LEFT, 1));
+    assert_eq!(board.touch(7, 6), shared(ABOVE, 1));
+    assert_eq!(board.touch(4, 6), Ok(None));
+    // Staggered: neither begins or ends with the other.
+    let (a, b) = (at(0, 0, 5, 2).unwrap(), at(3, 2, 9, 4).unwrap());
+    let over = Touch {
+        side: ABOVE,
+        length: 2,
+    };
+    assert_eq!(touch(&a, &b), Some(over));
+    assert_eq!(stretch(&a, &b, ABOVE), (3, 5));
+}
+
+/// Two that meet at a corner share nothing, and neither do two that lie apart on one line.
+#[test]
+fn a_corner_is_no_wall() {
+    let middle = at(2, 2, 4, 4).unwrap();
+    let corners = [(0, 0, 2, 2), (4, 0, 6, 2), (0, 4, 2, 6), (4, 4, 6, 6)];
+    let apart = [(4, 0, 6, 1), (4, 5, 6, 6), (0, 4, 1, 6), (5, 0, 6, 2)];
+    for (x1, y1, x2, y2) in corners.into_iter().chain(apart) {
+        let other = at(x1, y1, x2, y2).unwrap();
+        assert_eq!(touch(&middle, &other), None);
+        assert_eq!(touch(&other, &middle), None);
+    }
+}
+
+/// W4: asked the other way round, the side is opposite and the length equal; and the side is the kind in the star.
+#[test]
+fn a_touch_seen_from_both() {
+    let mut turned = loaded(&bytes(F));
+    turned.turn(5, 6).expect("accepted");
+    for board in [loaded(&bytes(F)), turned, two_columns_and_a_stack()] {
+        let job = board.job().unwrap();
+        for u in 0..job.vertices() {
+            for v in 0..job.vertices() {
+                let there = board.touch(u, v).unwrap();
+                let back = board.touch(v, u).unwrap().map(|touch| Touch {
+                    side: opposite(touch.side),
+                    ..touch
+                });
+                assert_eq!(there, back);
+                if job.is_room(u) {
+                    assert_eq!(there.map(|touch| touch.side), job.kind_of(u, v));
+                }
+            }
+        }
+    }
+}
+
+/// u, v, side, from, to, length.
+fn told_doors(board: &Board) -> Vec<[usize; 6]> {
+    let doors = board.doors().expect("held");
+    doors
+        .iter()
+        .map(|door| {
+            let touch = door.touch;
+            [
+                door.u,
+                door.v,
+                usize::from(touch.side),
+                door.from,
+                door.to,
+                touch.length,
+            ]
+        })
+        .collect()
+}
+
+#[test]
+fn doors_name_each_contact_of_two_rooms_once() {
+    let mut board = loaded(&bytes(F));
+    let of_f = [
+        [4, 5, 3, 3, 4, 1],
+        [4, 6, 2, 1, 2, 1],
+        [5, 6, 1, 2, 3, 1],
+        [5, 7, 2, 2, 3, 1],
+        [6, 7, 3, 1, 2, 1],
+    ];
+    assert_eq!(told_doors(&board), of_f);
+    board.turn(5, 6).expect("accepted");
+    let turned = [
+        [4, 5, 3, 2, 3, 1],
+        [4, 6, 2, 1, 2, 1],
+        [5, 6, 2, 2, 3, 1],
+        [5, 7, 2, 3, 4, 1],
+        [6, 7, 3, 1, 2, 1],
+    ];
+    assert_eq!(told_doors(&board), turned);
+    let stacked = [
+        [4, 5, 3, 1, 3, 2],
+        [5, 6, 3, 2, 3, 1],
+        [5, 7, 3, 1, 2, 1],
+        [6, 7, 2, 3, 4, 1],
+    ];
+    assert_eq!(told_doors(&two_columns_and_a_stack()), stacked);
+    assert_eq!(told_doors(&loaded(&bytes(P1))), [[0; 6]; 0]);
+    assert_eq!(told_doors(&loaded(&row(60))).len(), 59);
 }
 
 #[test]

@@ -4,6 +4,7 @@
 //! It aims at being easy to hold against the documents, not at speed.
 
 pub mod board;
+pub mod doors;
 pub mod drawing;
 pub mod fields;
 pub mod job;

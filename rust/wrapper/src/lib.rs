@@ -7,6 +7,13 @@
 #[derive(Clone, Copy, Debug, PartialEq, Eq)]
 pub struct Refusal(pub u8);
 
+/// A wall that two vertices share: the side on which the second stands, seen from the first (0 above, 1 left, 2 below, 3 right), and its length.
+#[derive(Clone, Copy, Debug, PartialEq, Eq)]
+pub struct Touch {
+    pub side: u8,
+    pub length: usize,
+}
+
 /// No plan is longer: a sheet and 64 rectangles.
 pub const PLAN_MOST: usize = 5 + 64 * 8;
 
@@ -43,7 +50,7 @@ mod library {
             out_length: usize,
         ) -> usize;
 
-        pub fn tirunoiwa_share(job: *const u8, job_length: usize, u: usize, v: usize) -> usize;
+        pub fn tirunoiwa_touch(job: *const u8, job_length: usize, u: usize, v: usize) -> usize;
     }
 }
 
@@ -63,11 +70,16 @@ pub fn star(job: &[u8], room: usize) -> Vec<u8> {
     bytes.expect("a star is a part of the job, so a buffer as long as the job is never too short")
 }
 
-/// Whether two vertices share a wall length of at least 1.
-pub fn share(job: &[u8], u: usize, v: usize) -> Result<bool, Refusal> {
+/// The wall that two vertices share, or none.
+pub fn touch(job: &[u8], u: usize, v: usize) -> Result<Option<Touch>, Refusal> {
     // SAFETY: `job` is a slice, so its pointer is not null and valid for its length, and is only read.
-    let answer = unsafe { library::tirunoiwa_share(job.as_ptr(), job.len(), u, v) };
-    Ok(value(answer)? == 1)
+    let answer = unsafe { library::tirunoiwa_touch(job.as_ptr(), job.len(), u, v) };
+    let value = value(answer)?;
+    // Four times the length, which is at least 1, and the side; 0 for none.
+    Ok((value > 0).then_some(Touch {
+        side: (value % 4) as u8,
+        length: value / 4,
+    }))
 }
 
 /// The plan of a job, written to the front of a lent buffer.

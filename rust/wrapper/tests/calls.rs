@@ -1,7 +1,7 @@
 //! Calls each function of the static library from Rust. Every byte of a lent buffer is looked at, behind what was written too.
 
-use tirunoiwa::{plan, plan_into, share, star, star_into, turned, turned_into, Refusal};
-use tirunoiwa::{JOB_MOST, PLAN_MOST};
+use tirunoiwa::{plan, plan_into, star, star_into, touch, turned, turned_into};
+use tirunoiwa::{Refusal, Touch, JOB_MOST, PLAN_MOST};
 
 const MOST: usize = 1024;
 
@@ -165,14 +165,47 @@ fn stars_are_written() {
     assert_eq!(star(P3, 4), []);
 }
 
+/// A shared wall, as it is told.
+fn shared(side: u8, length: usize) -> Result<Option<Touch>, Refusal> {
+    Ok(Some(Touch { side, length }))
+}
+
 #[test]
 fn shared_walls_are_told() {
-    assert_eq!(share(F, 5, 6), Ok(true));
-    assert_eq!(share(F, 0, 1), Ok(true));
-    assert_eq!(share(F, 4, 7), Ok(false));
-    assert_eq!(share(F, 5, 5), Ok(false));
-    assert_eq!(share(F, 5, 8), Err(Refusal(13)));
-    assert_eq!(share(F, usize::MAX, usize::MAX), Err(Refusal(13)));
-    assert_eq!(share(P3, 5, 6), Err(Refusal(1)));
-    assert_eq!(share(P10, 5, 8), Err(Refusal(9)));
+    assert_eq!(touch(F, 5, 6), shared(1, 1));
+    assert_eq!(touch(F, 6, 5), shared(3, 1));
+    assert_eq!(touch(F, 7, 5), shared(0, 1));
+    assert_eq!(touch(F, 5, 7), shared(2, 1));
+    assert_eq!(touch(F, 1, 6), shared(3, 2));
+    assert_eq!(touch(F, 0, 1), shared(1, 1));
+    assert_eq!(touch(F, 1, 2), shared(3, 1));
+    assert_eq!(touch(F, 0, 2), Ok(None));
+    assert_eq!(touch(F, 4, 7), Ok(None));
+    assert_eq!(touch(F, 5, 5), Ok(None));
+    assert_eq!(touch(F, 5, 8), Err(Refusal(13)));
+    assert_eq!(touch(F, usize::MAX, usize::MAX), Err(Refusal(13)));
+    assert_eq!(touch(P3, 5, 6), Err(Refusal(1)));
+    assert_eq!(touch(P10, 5, 8), Err(Refusal(9)));
+}
+
+/// Room 4 over the full height, and beside it rooms 5 to 63, one over the other.
+fn tall() -> Vec<u8> {
+    let mut job = vec![1, 0, 1, 60, 2, 0, 124, 0, 0, 1, 1, 2, 2];
+    job.extend((5..64).flat_map(|v| [v, 3]));
+    for v in 5..64 {
+        let above = if v == 63 { 0 } else { v + 1 };
+        let below = if v == 5 { 2 } else { v - 1 };
+        job.extend([2, 0, 8, above, 0, 4, 1, below, 2, 3, 3]);
+    }
+    job
+}
+
+#[test]
+fn the_longest_wall_of_a_room_is_told() {
+    let job = tall();
+    assert_eq!(touch(&job, 4, 1), shared(1, 59));
+    assert_eq!(touch(&job, 1, 4), shared(3, 59));
+    assert_eq!(touch(&job, 4, 63), shared(3, 1));
+    assert_eq!(touch(&job, 63, 4), shared(1, 1));
+    assert_eq!(touch(&job, 63, 62), shared(2, 1));
 }

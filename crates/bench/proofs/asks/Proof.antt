@@ -20,8 +20,8 @@ mark-requires c κs = search needs
 wrapping-add-u64-requires : tie.Need-wrapping-add-u64-requires Inv-loop μ-loop
 wrapping-add-u64-requires c κs = search needs
 
-shares-requires : tie.Need-shares-requires Inv-loop μ-loop
-shares-requires c κs = search needs
+touches-requires : tie.Need-touches-requires Inv-loop μ-loop
+touches-requires c κs = search needs
 
 mark-requires-2 : tie.Need-mark-requires-2 Inv-loop μ-loop
 mark-requires-2 c κs = search needs
@@ -51,7 +51,7 @@ asks-spec =
     rectangle-requires
     mark-requires
     wrapping-add-u64-requires
-    shares-requires
+    touches-requires
     mark-requires-2
     wrapping-add-u64-requires-2
     sub-left

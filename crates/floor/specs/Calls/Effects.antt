@@ -16,8 +16,8 @@ use Rattle.floor.specs.Plans.{Plan, Answer, refused, held, drawn, writeP
 use Rattle.floor.specs.Plans.Held.{drawn-held, drawn-again}
 use Rattle.floor.specs.Turns.{turn, turnedBy}
 use Rattle.floor.specs.Turns.Restore.{asked, turned-restores}
-use Rattle.floor.specs.Calls.{load, Board, empty, holding, Call, loads, turns, rectangle, shares, writesJob, writesPlan, Reply, refusal, done, wrote, Left, Restored}
-use Rattle.floor.specs.Calls.{Step, lent, refuse, after, asks, writes, step}
+use Rattle.floor.specs.Calls.{load, Board, empty, holding, Call, loads, turns, rectangle, writesJob, writesPlan, Reply, refusal, done, wrote, Left}
+use Rattle.floor.specs.Calls.{Restored, Step, lent, refuse, after, asks, writes, step, touches}
 use Rattle.floor.specs.Calls.Sound.{Sound, sound-good, load-held, load-reads}
 
 -- what is done is not refused
@@ -51,12 +51,12 @@ refused-leaves b (loads bs) k e = load-leaves b e
     load-leaves b e = after-refused b (load bs) k e
 refused-leaves empty (turns u v) k e = record { same-board = refl; same-buffer = refl }
 refused-leaves empty (rectangle v) k e = record { same-board = refl; same-buffer = refl }
-refused-leaves empty (shares u v) k e = record { same-board = refl; same-buffer = refl }
+refused-leaves empty (touches u v) k e = record { same-board = refl; same-buffer = refl }
 refused-leaves empty (writesJob buf) k e = record { same-board = refl; same-buffer = refl }
 refused-leaves empty (writesPlan buf) k e = record { same-board = refl; same-buffer = refl }
 refused-leaves (holding i q) (turns u v) k e = after-refused (holding i q) (turn i u v) k e
 refused-leaves (holding i q) (rectangle v) k e = asks-left (holding i q) _ _
-refused-leaves (holding i q) (shares u v) k e = asks-left (holding i q) _ _
+refused-leaves (holding i q) (touches u v) k e = asks-left (holding i q) _ _
 refused-leaves (holding i q) (writesJob buf) k e = writes-refused (holding i q) _ (writeJob i) buf k e
 refused-leaves (holding i q) (writesPlan buf) k e = writes-refused (holding i q) _ (writePlan q) buf k e
 

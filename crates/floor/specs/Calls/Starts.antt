@@ -9,9 +9,9 @@ use lib.Dec.{leb, eqb}
 use native.Mathlib.Omega.{arith}
 use Rattle.floor.specs.Lists.{all, pairwise, sum}
 use Rattle.floor.specs.Lists.Laws.{same-test, and-parts}
-use Rattle.floor.specs.Jobs.{Entry, Star, changes, Restarted, Job, OnlyStarts, no-room, one-more, opposite, rooms, isVertex, isRoom, starOf, names, SixPassed}
-use Rattle.floor.specs.Jobs.{lists, kindOf, listOf, pairsIn, goesOn, starOk, test3, entryOk, test4, test5, test6, Reading, fails, reads, readJob, passing}
-use Rattle.floor.specs.Jobs.{firstSix, writeJob}
+use Rattle.floor.specs.Jobs.{Entry, Star, changes, Restarted, Job, OnlyStarts, no-room, one-more, opposite, rooms, isVertex, isRoom, starOf, names}
+use Rattle.floor.specs.Jobs.{SixPassed, lists, kindOf, listOf, pairsIn, goesOn, starOk, test3, entryOk, test4, test5, test6, Reading, fails, reads}
+use Rattle.floor.specs.Jobs.{readJob, passing, firstSix, writeJob}
 use Rattle.floor.specs.Jobs.Round.{restart-none, restart-back, restart-mem, restart-count, restart-all, restart-any, links-all, links-count}
 use Rattle.floor.specs.Jobs.Stars.{once-of, of-once, kindOf-mem}
 use Rattle.floor.specs.Jobs.Facts.{Passes, is-room, passes-of, six-passed, labelling-passes}
@@ -19,13 +19,13 @@ use Rattle.floor.specs.Jobs.Written.{length-writeJob}
 use Rattle.floor.specs.Walls.{Axis, upright, level, Respects, rules, at, jobNumbers}
 use Rattle.floor.specs.Walls.Walk.{numbers-respects, numbers-positive}
 use Rattle.floor.specs.Walls.Rules.{obeys-respects, respects-obeys, numbered, numbers-are, numbers-least, to-vertex}
-use Rattle.floor.specs.Plans.{Plan, planOf, joined, sharesJoined, inOrder, roundInOrder, drawable, Answer, refused, held, past, tested, planned, Alike, one-plan, one-refusal}
-use Rattle.floor.specs.Plans.{drawn, drawRead, writePlan}
+use Rattle.floor.specs.Plans.{Plan, planOf, joined, sharesJoined, inOrder, roundInOrder, drawable, Answer, refused, held, past, tested, planned, Alike}
+use Rattle.floor.specs.Plans.{one-plan, one-refusal, drawn, drawRead, writePlan}
 use Rattle.floor.specs.Turns.{turned, turningAt, turningFrom, inContact, turning, turn, turnedBy}
 use Rattle.floor.specs.Turns.Swing.{last-restarted, restart-turned, length-listOf}
 use Rattle.floor.specs.Turns.Restore.{turnable, turned-keeps}
-use Rattle.floor.specs.Calls.{load, Board, empty, holding, Call, loads, turns, rectangle, shares, writesJob, writesPlan, Reply, wrote, Step, refuse, BoardsAlike, StepsAlike, both-empty, both-hold}
-use Rattle.floor.specs.Calls.{after, asks, writes, step, run}
+use Rattle.floor.specs.Calls.{load, Board, empty, holding, Call, loads, turns, rectangle, writesJob, writesPlan, Reply, wrote, refuse, BoardsAlike}
+use Rattle.floor.specs.Calls.{StepsAlike, both-empty, both-hold, after, asks, writes, step, run, touches}
 use Rattle.floor.specs.Calls.Sound.{Sound, SoundBoard, sound-good, step-sound}
 use Rattle.floor.specs.Calls.Exact.{kind-found}
 
@@ -394,14 +394,14 @@ step-alike {b} {c} (loads bs) s t x = loaded b c x
     loaded b c x = after-alike b c x (answer-itself (load bs))
 step-alike (turns u v) s t both-empty = record { one-reply = refl; boards = both-empty }
 step-alike (rectangle v) s t both-empty = record { one-reply = refl; boards = both-empty }
-step-alike (shares u v) s t both-empty = record { one-reply = refl; boards = both-empty }
+step-alike (touches u v) s t both-empty = record { one-reply = refl; boards = both-empty }
 step-alike (writesJob buf) s t both-empty = record { one-reply = refl; boards = both-empty }
 step-alike (writesPlan buf) s t both-empty = record { one-reply = refl; boards = both-empty }
 step-alike (turns u v) s t (both-hold {j} {i} {p} o) =
     after-alike (holding j p) (holding i p) (both-hold o) (turn-alike o p p s t u v)
 step-alike (rectangle v) s t (both-hold {j} {i} {p} o) =
     asks-alike (holding j p) (holding i p) _ _ _ (vertex-same o v) (both-hold o)
-step-alike (shares u v) s t (both-hold {j} {i} {p} o) =
+step-alike (touches u v) s t (both-hold {j} {i} {p} o) =
     asks-alike (holding j p) (holding i p) _ _ _ (rw (vertex-same o u, vertex-same o v)) (both-hold o)
 step-alike (writesJob buf) s t (both-hold {j} {i} {p} o) =
     writes-alike (holding j p) (holding i p) (writeJob j) (writeJob i) buf (written-same o) (both-hold o)

@@ -1,12 +1,12 @@
 -- The drawing test item by item, as facts about the rectangles; and the way back. Assumes nothing.
 use mathlib.Core.Path.{_≡_, sym, ap, _∙_}
 use mathlib.Core.Logic.{_⊎_, inl, inr}
-use mathlib.Core.Bool.{Bool, true, not, _&&_, _||_}
+use mathlib.Core.Bool.{Bool, true, not, _||_}
 use mathlib.Core.List.{[], map}
-use Prim.Native.Nat.{ℕ, zero, suc, _+_, _-_, _*_, _≤_, _<_, max}
+use Prim.Native.Nat.{ℕ, _+_, _-_, _*_, _<_, max}
 use native.Mathlib.Omega.{arith}
 use native.Mathlib.Decide.{decLt}
-use lib.Dec.{leb, eqb}
+use lib.Dec.{eqb}
 use borrow.Author.Tests.{leb-true, ltb-true, eqb-true, le-leb, lt-ltb, eq-eqb}
 use Rattle.floor.specs.Lists.{all, pairwise, sum}
 use Rattle.floor.specs.Lists.Laws.{and-parts, and-both, or-cases, or-left, or-right, not-of, not-and, implies, implied, all-mem, mem-all, mem-getD}
@@ -14,16 +14,16 @@ use Rattle.floor.specs.Lists.Laws.{getD-mem, all-at, at-pairwise, pairwi
 use Rattle.floor.specs.Jobs.{Job, Vertex, Room, starOf}
 use Rattle.floor.specs.Jobs.Facts.{Passes, star-room, star-at}
 use Rattle.floor.specs.Jobs.Straight.{straight}
-use Rattle.floor.specs.Plans.{Rect, Plan, nowhere, rectOf, inside, overlap, abut, apart, area, share, corner, joined, sharesJoined, roundInOrder}
-use Rattle.floor.specs.Plans.{drawable}
-use Rattle.floor.specs.Floor.{Cell, Wall, Stands, Shares, Joined, Complete, Inside}
+use Rattle.floor.specs.Plans.{Rect, Plan, nowhere, rectOf, inside, overlap, abut, apart, area, corner, joined, sharesJoined, roundInOrder, drawable}
+use Rattle.floor.specs.Plans.{isWall, touchOf}
+use Rattle.floor.specs.Floor.{Cell, Shares, Joined, Complete, Inside}
 use Rattle.floor.specs.Floor.Joins.{joined-of, of-joined}
-use Rattle.floor.specs.Floor.Placed.{wall-at}
 use Rattle.floor.specs.Floor.Order.{InOrder, round-order, order-round}
+use Rattle.floor.specs.Floor.Touches.{shares-of, of-shares}
 
 -- the stretches from a to b and from c to d touch end to end
-abbrev pub Touch : ℕ → ℕ → ℕ → ℕ → Type 0
-Touch a b c d = (b ≡ c) ⊎ (d ≡ a)
+abbrev pub Abuts : ℕ → ℕ → ℕ → ℕ → Type 0
+Abuts a b c d = (b ≡ c) ⊎ (d ≡ a)
 
 -- THE DRAWING TEST AS FACTS
 pub record Draws (j : Job) (p : Plan) : Type 0 where
@@ -31,8 +31,8 @@ pub record Draws (j : Job) (p : Plan) : Type 0 where
   pub apart : (u v : ℕ) → u < v → Vertex j v → (x y : ℕ) → Cell (rectOf p u) x y → Cell (rectOf p v) x y → ⊥
   pub areas : sum (map area (p .rects)) ≡ p .width * p .height
   pub shares : (u v : ℕ) → u < v → Vertex j v → Shares (rectOf p u) (rectOf p v) → Joined j u v
-  pub corners : (u v : ℕ) → u < v → Vertex j v → Touch (rectOf p u .x1) (rectOf p u .x2) (rectOf p v .x1) (rectOf p v .x2)
-      → Touch (rectOf p u .y1) (rectOf p u .y2) (rectOf p v .y1) (rectOf p v .y2) → ⊥
+  pub corners : (u v : ℕ) → u < v → Vertex j v → Abuts (rectOf p u .x1) (rectOf p u .x2) (rectOf p v .x1) (rectOf p v .x2)
+      → Abuts (rectOf p u .y1) (rectOf p u .y2) (rectOf p v .y1) (rectOf p v .y2) → ⊥
   pub order : (u : ℕ) → Room j u → InOrder p (straight (starOf j u))
 
 -- inside the sheet
@@ -90,79 +90,19 @@ of-apart r s h = go (decLt 0 ox) (decLt 0 oy)
         }) (record { left = omega arith; right = omega arith; lower = omega arith; upper = omega arith }))
 
 -- end to end
-touch-of : (a b c d : ℕ) → abut a b c d ≡ true → Touch a b c d
+touch-of : (a b c d : ℕ) → abut a b c d ≡ true → Abuts a b c d
 unfolding abut
 touch-of a b c d h = go (or-cases (eqb b c) (eqb d a) h)
   where
-    go : (eqb b c ≡ true) ⊎ (eqb d a ≡ true) → Touch a b c d
+    go : (eqb b c ≡ true) ⊎ (eqb d a ≡ true) → Abuts a b c d
     go (inl e) = inl (eqb-true b c e)
     go (inr e) = inr (eqb-true d a e)
 
 -- stretches that touch end to end pass the test
-of-touch : (a b c d : ℕ) → Touch a b c d → abut a b c d ≡ true
+of-touch : (a b c d : ℕ) → Abuts a b c d → abut a b c d ≡ true
 unfolding abut
 of-touch a b c d (inl e) = or-left (eqb b c) (eqb d a) (eq-eqb b c e)
 of-touch a b c d (inr e) = or-right (eqb b c) (eqb d a) (eq-eqb d a e)
-
--- a shared stretch, along either line
-wall-of : (a from to b from′ to′ : ℕ) → a ≡ b → 1 ≤ overlap from to from′ to′ → Wall a from to b from′ to′
-unfolding overlap
-wall-of a from to b from′ to′ e l = wall-at a from to b from′ to′ e (omega arith) (omega arith) (omega arith) (omega arith)
-
--- stretches that share a unit reach over one another by at least 1
-of-wall : {a from to b from′ to′ : ℕ} → Wall a from to b from′ to′ → leb 1 (overlap from to from′ to′) ≡ true
-unfolding overlap
-of-wall {a} {from} {to} {b} {from′} {to′} w = le-leb 1 (overlap from to from′ to′) (omega (arith, w .starts, w .ends, w .starts′, w .ends′))
-
--- so they do named in the other order
-back-wall : {a from to b from′ to′ : ℕ} → Wall a from to b from′ to′ → leb 1 (overlap from′ to′ from to) ≡ true
-unfolding overlap
-back-wall {a} {from} {to} {b} {from′} {to′} w = le-leb 1 (overlap from′ to′ from to) (omega (arith, w .starts, w .ends, w .starts′, w .ends′))
-
--- two rectangles that pass the test share at least one cell's length of wall
-pub shares-of : (r s : Rect) → share r s ≡ true → Shares r s
-unfolding share
-shares-of r s h = go (or-cases _ _ h)
-  where
-    across : Touch (r .x1) (r .x2) (s .x1) (s .x2) → 1 ≤ overlap (r .y1) (r .y2) (s .y1) (s .y2) → Shares r s
-    across (inl e) l = record { side = 3; few = omega arith; stands = wall-of (r .x2) (r .y1) (r .y2) (s .x1) (s .y1) (s .y2) e l }
-    across (inr e) l = record {
-      side = 1;
-      few = omega arith;
-      stands = wall-of (s .x2) (s .y1) (s .y2) (r .x1) (r .y1) (r .y2) e (unfold overlap in omega arith);
-    }
-
-    along : Touch (r .y1) (r .y2) (s .y1) (s .y2) → 1 ≤ overlap (r .x1) (r .x2) (s .x1) (s .x2) → Shares r s
-    along (inl e) l = record { side = 0; few = omega arith; stands = wall-of (r .y2) (r .x1) (r .x2) (s .y1) (s .x1) (s .x2) e l }
-    along (inr e) l = record {
-      side = 2;
-      few = omega arith;
-      stands = wall-of (s .y2) (s .x1) (s .x2) (r .y1) (r .x1) (r .x2) e (unfold overlap in omega arith);
-    }
-
-    go : ((abut (r .x1) (r .x2) (s .x1) (s .x2) && leb 1 (overlap (r .y1) (r .y2) (s .y1) (s .y2))) ≡ true)
-        ⊎ ((abut (r .y1) (r .y2) (s .y1) (s .y2) && leb 1 (overlap (r .x1) (r .x2) (s .x1) (s .x2))) ≡ true) → Shares r s
-    go (inl e) = let (a, b) = and-parts _ _ e in across (touch-of (r .x1) (r .x2) (s .x1) (s .x2) a) (leb-true 1 (overlap (r .y1) (r .y2) (s .y1) (s .y2)) b)
-    go (inr e) = let (a, b) = and-parts _ _ e in along (touch-of (r .y1) (r .y2) (s .y1) (s .y2) a) (leb-true 1 (overlap (r .x1) (r .x2) (s .x1) (s .x2)) b)
-
--- two rectangles that share at least one cell's length of wall pass the test
-pub of-shares : (r s : Rect) → Shares r s → share r s ≡ true
-unfolding share
-of-shares r s h = go (h .side) (h .few) (h .stands)
-  where
-    across : Touch (r .x1) (r .x2) (s .x1) (s .x2) → leb 1 (overlap (r .y1) (r .y2) (s .y1) (s .y2)) ≡ true → share r s ≡ true
-    across t l = or-left _ _ (and-both _ _ (of-touch (r .x1) (r .x2) (s .x1) (s .x2) t) l)
-
-    along : Touch (r .y1) (r .y2) (s .y1) (s .y2) → leb 1 (overlap (r .x1) (r .x2) (s .x1) (s .x2)) ≡ true → share r s ≡ true
-    along t l = or-right (abut (r .x1) (r .x2) (s .x1) (s .x2) && leb 1 (overlap (r .y1) (r .y2) (s .y1) (s .y2))) _
-        (and-both _ _ (of-touch (r .y1) (r .y2) (s .y1) (s .y2) t) l)
-
-    go : (k : ℕ) → k < 4 → Stands k r s → share r s ≡ true
-    go zero l w = along (inl (w .line)) (of-wall w)
-    go (suc zero) l w = across (inr (w .line)) (back-wall w)
-    go (suc (suc zero)) l w = along (inr (w .line)) (back-wall w)
-    go (suc (suc (suc zero))) l w = across (inl (w .line)) (of-wall w)
-    go (suc (suc (suc (suc k)))) l w = absurd (omega arith)
 
 module _ (j : Job) (ok : Passes j) (p : Plan) (c : Complete j p) where
   -- a test of pairs, at two vertices
@@ -203,7 +143,8 @@ module _ (j : Job) (ok : Passes j) (p : Plan) (c : Complete j p) where
         apart = λ u v l hv. apart-of (rectOf p u) (rectOf p v) (pair-at apart aparts u v l hv);
         areas = eqb-true (sum (map area (p .rects))) (p .width * p .height) sums;
         shares = λ u v l hv s.
-            joined-of j u v (sym (named u v (omega arith) hv) ∙ implied (share (rectOf p u) (rectOf p v)) _ (pair-at (sharesJoined j) shared u v l hv)
+            joined-of j u v (sym (named u v (omega arith) hv) ∙ implied (isWall (touchOf (rectOf p u) (rectOf p v))) _
+            (pair-at (sharesJoined j) shared u v l hv)
             (of-shares (rectOf p u) (rectOf p v) s));
         corners = λ u v l hv x y.
             not-and (corner (rectOf p u) (rectOf p v)) (pair-at (λ r s. not (corner r s)) corners u v l hv)
@@ -227,7 +168,7 @@ module _ (j : Job) (ok : Passes j) (p : Plan) (c : Complete j p) where
       (eq-eqb (sum (map area (p .rects))) (p .width * p .height) (d .areas)))
       (at-pair (sharesJoined j)
       (λ u v l hv.
-      implies (share (rectOf p u) (rectOf p v)) _ (λ s. named u v (omega arith) hv ∙ of-joined j u v
+      implies (isWall (touchOf (rectOf p u) (rectOf p v))) _ (λ s. named u v (omega arith) hv ∙ of-joined j u v
       (d .shares u v l hv (shares-of (rectOf p u) (rectOf p v) s))))))
       (at-pair (λ r s. not (corner r s))
       (λ u v l hv.

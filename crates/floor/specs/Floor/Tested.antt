@@ -20,7 +20,7 @@ use Rattle.floor.specs.Floor.Joins.{joined-back, joined-contact, side-of
 use Rattle.floor.specs.Floor.Placed.{reach, placeOf, inside-of, meets-stands, cover-place, alone-place, order-lists}
 use Rattle.floor.specs.Floor.Bridge.{meets-two, covered, once, plan-good, good-plan, shares-joined}
 use Rattle.floor.specs.Floor.Order.{counterclockwise-order}
-use Rattle.floor.specs.Floor.Draws.{Touch, Draws, drawable-draws, draws-drawable}
+use Rattle.floor.specs.Floor.Draws.{Draws, drawable-draws, draws-drawable, Abuts}
 use Rattle.floor.specs.Floor.Area.{cells-areas, areas-cells}
 
 -- one of two, told in the other order
@@ -44,8 +44,8 @@ module _ (j : Job) (ok : Passes j) (p : Plan) (c : Complete j p) where
     g = plan-good j ok p gp
 
     -- the placement's corner, by rectangles
-    no-corner : (u v : ℕ) → Vertex j u → Vertex j v → Touch (rectOf p u .x1) (rectOf p u .x2) (rectOf p v .x1) (rectOf p v .x2)
-        → Touch (rectOf p u .y1) (rectOf p u .y2) (rectOf p v .y1) (rectOf p v .y2) → ⊥
+    no-corner : (u v : ℕ) → Vertex j u → Vertex j v → Abuts (rectOf p u .x1) (rectOf p u .x2) (rectOf p v .x1) (rectOf p v .x2)
+        → Abuts (rectOf p u .y1) (rectOf p u .y2) (rectOf p v .y1) (rectOf p v .y2) → ⊥
     unfolding placeOf reach
     no-corner u v hu hv = go
       where
@@ -67,8 +67,8 @@ module _ (j : Job) (ok : Passes j) (p : Plan) (c : Complete j p) where
         tif : (n a b : ℕ) → a ≡ b → b ≤ n → (n - b) + a ≡ n
         tif n a b e l = omega arith
 
-        go : Touch (rectOf p u .x1) (rectOf p u .x2) (rectOf p v .x1) (rectOf p v .x2)
-            → Touch (rectOf p u .y1) (rectOf p u .y2) (rectOf p v .y1) (rectOf p v .y2) → ⊥
+        go : Abuts (rectOf p u .x1) (rectOf p u .x2) (rectOf p v .x1) (rectOf p v .x2)
+            → Abuts (rectOf p u .y1) (rectOf p u .y2) (rectOf p v .y1) (rectOf p v .y2) → ⊥
         go (inl e) (inl f) =
             g .corner right (piece u) (piece v) ku kv
             (rw (number-piece u, number-piece v) (fit (p .width) (rectOf p u .x2) (rectOf p v .x1) e (omega (arith, iv .wide, iv .in-width))))
@@ -114,11 +114,11 @@ module _ (j : Job) (ok : Passes j) (p : Plan) (c : Complete j p) where
 
     -- no two rectangles touch end to end both in x and in y
     crossed : (u v : Piece) → Known (starsOf j) u → Known (starsOf j) v
-        → Touch (rectOf p (number u) .x1) (rectOf p (number u) .x2) (rectOf p (number v) .x1) (rectOf p (number v) .x2)
-        → Touch (rectOf p (number u) .y1) (rectOf p (number u) .y2) (rectOf p (number v) .y1) (rectOf p (number v) .y2) → ⊥
+        → Abuts (rectOf p (number u) .x1) (rectOf p (number u) .x2) (rectOf p (number v) .x1) (rectOf p (number v) .x2)
+        → Abuts (rectOf p (number u) .y1) (rectOf p (number u) .y2) (rectOf p (number v) .y1) (rectOf p (number v) .y2) → ⊥
     crossed u v hu hv e f = go (either-less (number u) (number v) (λ q. self q e))
       where
-        self : number u ≡ number v → Touch (rectOf p (number u) .x1) (rectOf p (number u) .x2) (rectOf p (number v) .x1) (rectOf p (number v) .x2) → ⊥
+        self : number u ≡ number v → Abuts (rectOf p (number u) .x1) (rectOf p (number u) .x2) (rectOf p (number v) .x1) (rectOf p (number v) .x2) → ⊥
         self q (inl w) = omega (arith, inside-of j p (d .inside) u hu .wide, ap (λ z. rectOf p z .x1) q)
         self q (inr w) = omega (arith, inside-of j p (d .inside) u hu .wide, ap (λ z. rectOf p z .x2) q)
 

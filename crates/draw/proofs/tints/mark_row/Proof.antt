@@ -12,8 +12,8 @@ abbrev μ-loop : tie.MeasureT-loop
 loop-holds : tie.Need-loop-holds Inv-loop μ-loop
 loop-holds c = search needs
 
-touch-requires : tie.Need-touch-requires Inv-loop μ-loop
-touch-requires c κs = search needs
+walled-requires : tie.Need-walled-requires Inv-loop μ-loop
+walled-requires c κs = search needs
 
 mul-near : tie.Need-mul-near Inv-loop μ-loop
 mul-near c = search needs
@@ -43,7 +43,7 @@ mark-row-spec =
     Inv-loop
     μ-loop
     loop-holds
-    touch-requires
+    walled-requires
     mul-near
     add-near
     element-write-near

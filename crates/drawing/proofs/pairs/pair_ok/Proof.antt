@@ -1,4 +1,4 @@
-use Rattle.drawing.proofs.Two.{pair-far-across, pair-far-upward, pair-same, pair-wall}
+use Rattle.drawing.proofs.Two.{pair-far-across, pair-far-upward, pair-clear, pair-wall}
 use borrow.Author.Needs.{needs}
 use Rattle.drawing.proofs.pairs.pair_ok.Statement.{statement}
 use Rattle.drawing.proofs.pairs.pair_ok.Tie as tie
@@ -15,14 +15,17 @@ away-requires-2 c κs = search needs
 returns-2 : tie.Need-returns-2
 returns-2 c = search (pair-far-upward, needs)
 
-abut-requires : tie.Need-abut-requires
-abut-requires c κs = search needs
+touch-requires : tie.Need-touch-requires
+touch-requires c κs = search needs
 
-abut-requires-2 : tie.Need-abut-requires-2
-abut-requires-2 c κs = search needs
+enum-told : tie.Need-enum-told
+enum-told c = search needs
+
+enum-told-2 : tie.Need-enum-told-2
+enum-told-2 c = search needs
 
 returns-3 : tie.Need-returns-3
-returns-3 c = search (pair-same, needs)
+returns-3 c = search (pair-clear, needs)
 
 joined-requires : tie.Need-joined-requires
 joined-requires c κs = search needs
@@ -38,8 +41,9 @@ pair-ok-spec =
     returns
     away-requires-2
     returns-2
-    abut-requires
-    abut-requires-2
+    touch-requires
+    enum-told
+    enum-told-2
     returns-3
     joined-requires
     returns-4)

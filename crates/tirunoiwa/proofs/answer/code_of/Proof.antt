@@ -1,6 +1,6 @@
 use Rattle.floor.specs.Tracker.{code}
 use Rattle.board.specs.Boards.{replyOf}
-use Rattle.tirunoiwa.proofs.Codes.{says-fits, wrote-fits, code-says, code-wrote}
+use Rattle.tirunoiwa.proofs.Codes.{wrote-fits, code-touched, code-wrote}
 use borrow.Author.Needs.{needs}
 use Rattle.tirunoiwa.proofs.answer.code_of.Statement.{statement}
 use Rattle.tirunoiwa.proofs.answer.code_of.Tie as tie
@@ -20,11 +20,11 @@ enum-told-2 c = search needs
 enum-known-reply-2 : tie.Need-enum-known-reply-2
 enum-known-reply-2 c = search needs
 
-cast-result : tie.Need-cast-result
-cast-result c = search needs
+code-of-touch-requires : tie.Need-code-of-touch-requires
+code-of-touch-requires c κs = search needs
 
 add-result : tie.Need-add-result
-add-result c = says-fits (c .before .reply2 .given .0 .0)
+add-result c = search needs
 
 enum-known-reply-3 : tie.Need-enum-known-reply-3
 enum-known-reply-3 c = search needs
@@ -45,7 +45,7 @@ unfolding code replyOf
 returns-3 c = search needs
 
 returns-4 : tie.Need-returns-4
-returns-4 c = search (code-says, needs)
+returns-4 c = search (code-touched, needs)
 
 returns-5 : tie.Need-returns-5
 returns-5 c = search (code-wrote, needs)
@@ -59,7 +59,7 @@ code-of-spec =
     enum-told
     enum-told-2
     enum-known-reply-2
-    cast-result
+    code-of-touch-requires
     add-result
     enum-known-reply-3
     add-result-2

@@ -1,0 +1,13 @@
+-- What follows from the promise of `list_doors`. Assumes nothing.
+use Prim.Native.Nat.{ℕ, _≤_}
+use mathlib.Core.Path.{_≡_}
+use mathlib.Core.List.{List}
+use lib.ListN.{length}
+use lib.Seq.{sets}
+use Rattle.floor.specs.Doors.{doorsListing}
+use Rattle.letters.proofs.Corollaries.{one-text}
+
+-- THE PROMISE OF `list_doors` ALLOWS ONE LENGTH AND ONE PAGE
+pub one-doors : (bs o x y : List ℕ) (r s : ℕ) → (r ≡ length (doorsListing bs)) × (x ≡ sets o 0 (doorsListing bs)) × (r ≤ 49152)
+    → (s ≡ length (doorsListing bs)) × (y ≡ sets o 0 (doorsListing bs)) × (s ≤ 49152) → (r ≡ s) × (x ≡ y)
+one-doors bs o x y r s p q = one-text (doorsListing bs) o r s x y p q
