@@ -30,12 +30,22 @@
 extern "C" {
 #endif
 
-/* Buffers that always suffice: for a plan, a sheet and 64 rectangles; for a turned job, 60 stars of 360 pairs. A star is never longer than its job. */
+/*
+ * Buffers that always suffice: for a plan, a sheet and 64 rectangles; for the walls, 63 of them; for a turned job, 60 stars of 360 pairs. A star is never
+ * longer than its job.
+ */
 #define TIRUNOIWA_PLAN_MOST (5 + 64 * 8)
+#define TIRUNOIWA_WALLS_MOST (63 * 8)
 #define TIRUNOIWA_JOB_MOST (4 + 60 * 3 + 360 * 2)
 
 /* Reads a job and writes its plan to the front of `out`. Answers 256 + the plan's length, or 1 to 7, 9, 14. */
 size_t tirunoiwa_plan(const uint8_t *job, size_t job_length, uint8_t *out, size_t out_length);
+
+/*
+ * Reads a job and writes the walls of its plan to the front of `out`, for the joiner: a field of tag 8, length 5 each (direction 0 upright or 1 level, number,
+ * beginning, end, room sides), upright walls first, then by number, then by beginning. Answers 256 + the length, or 1 to 7, 9, 14.
+ */
+size_t tirunoiwa_walls(const uint8_t *job, size_t job_length, uint8_t *out, size_t out_length);
 
 /* Reads a job, turns the contact of rooms u and v, and writes the turned job to the front of `out`. Answers 256 + its length, or 1 to 7, 9, 11, 12, 14. */
 size_t tirunoiwa_turned(const uint8_t *job, size_t job_length, size_t u, size_t v, uint8_t *out, size_t out_length);

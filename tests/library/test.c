@@ -44,6 +44,25 @@ static const uint8_t P9_PLAN[] = {
     4, 0, 5, 6, 1, 1, 3, 2,
     4, 0, 5, 7, 3, 1, 4, 2,
 };
+/* The walls of both. */
+static const uint8_t F_WALLS[] = {
+    8, 0, 5, 0, 1, 1, 4, 2,
+    8, 0, 5, 0, 2, 1, 4, 4,
+    8, 0, 5, 0, 3, 1, 4, 2,
+    8, 0, 5, 1, 1, 1, 3, 2,
+    8, 0, 5, 1, 2, 2, 3, 2,
+    8, 0, 5, 1, 3, 1, 2, 2,
+    8, 0, 5, 1, 4, 1, 3, 2,
+};
+static const uint8_t P9_WALLS[] = {
+    8, 0, 5, 0, 1, 1, 3, 2,
+    8, 0, 5, 0, 2, 2, 3, 2,
+    8, 0, 5, 0, 3, 1, 2, 2,
+    8, 0, 5, 0, 4, 1, 3, 2,
+    8, 0, 5, 1, 1, 1, 4, 2,
+    8, 0, 5, 1, 2, 1, 4, 4,
+    8, 0, 5, 1, 3, 1, 4, 2,
+};
 /* No rooms; no bytes; F without the contact of 5 and 6. */
 static const uint8_t P2[] = {1, 0, 1, 0};
 static const uint8_t P3[] = {0};
@@ -143,10 +162,37 @@ static void plans(void)
     refused("P10 before a short buffer", tirunoiwa_plan(P10, SIZE(P10), lend(), 0), 9);
 }
 
+static void walls(void)
+{
+    wrote("walls of F", tirunoiwa_walls(F, SIZE(F), lend(), MOST), F_WALLS, SIZE(F_WALLS));
+    wrote("walls of F, no byte to spare", tirunoiwa_walls(F, SIZE(F), lend(), SIZE(F_WALLS)), F_WALLS, SIZE(F_WALLS));
+    wrote("walls of P9", tirunoiwa_walls(P9, SIZE(P9), lend(), TIRUNOIWA_WALLS_MOST), P9_WALLS, SIZE(P9_WALLS));
+    refused("walls of F, a byte too short", tirunoiwa_walls(F, SIZE(F), lend(), SIZE(F_WALLS) - 1), 14);
+    refused("walls of F into no bytes", tirunoiwa_walls(F, SIZE(F), lend(), 0), 14);
+    refused("walls of P2", tirunoiwa_walls(P2, SIZE(P2), lend(), MOST), 2);
+    refused("walls of P3", tirunoiwa_walls(P3, 0, lend(), MOST), 1);
+    refused("walls of P10 before a short buffer", tirunoiwa_walls(P10, SIZE(P10), lend(), 0), 9);
+}
+
 static uint8_t *put_bytes(uint8_t *at, const uint8_t *bytes, size_t length)
 {
     memcpy(at, bytes, length);
     return at + length;
+}
+
+/* The walls of sixty rooms in a row: 61 upright ones, two level ones, and no list is longer. */
+static void walls_of_sixty(const uint8_t *job, size_t job_length)
+{
+    static uint8_t list[TIRUNOIWA_WALLS_MOST];
+    static const uint8_t level[] = {8, 0, 5, 1, 1, 1, 61, 60, 8, 0, 5, 1, 2, 1, 61, 60};
+    uint8_t *end = list;
+    for (uint8_t x = 1; x < 62; x++) {
+        const uint8_t wall[] = {8, 0, 5, 0, x, 1, 2, x == 1 || x == 61 ? 1 : 2};
+        end = put_bytes(end, wall, SIZE(wall));
+    }
+    end = put_bytes(end, level, SIZE(level));
+    wrote("walls of sixty rooms", tirunoiwa_walls(job, job_length, lend(), TIRUNOIWA_WALLS_MOST), list, (size_t)(end - list));
+    refused("walls of sixty rooms, a byte too short", tirunoiwa_walls(job, job_length, lend(), TIRUNOIWA_WALLS_MOST - 1), 14);
 }
 
 /* The greatest plan: sixty rooms in a row, between W and E. */
@@ -176,6 +222,7 @@ static void row_of_sixty(void)
     const size_t length = (size_t)(plan_end - plan);
     wrote("sixty rooms in a row", tirunoiwa_plan(job, job_length, lend(), TIRUNOIWA_PLAN_MOST), plan, length);
     refused("sixty rooms, a byte too short", tirunoiwa_plan(job, job_length, lend(), TIRUNOIWA_PLAN_MOST - 1), 14);
+    walls_of_sixty(job, job_length);
     refused("a row turned", tirunoiwa_turned(job, job_length, 4, 5, lend(), MOST), 12);
 }
 
@@ -226,6 +273,7 @@ static void touches(void)
 int main(void)
 {
     plans();
+    walls();
     row_of_sixty();
     turns();
     stars();

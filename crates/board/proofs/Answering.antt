@@ -10,7 +10,8 @@ use Rattle.floor.specs.Jobs.{Job, isVertex, fails, reads, readJob, firstSix, wr
 use Rattle.floor.specs.Jobs.Facts.{six-passed, passes-of}
 use Rattle.floor.specs.Jobs.Written.{read-test2}
 use Rattle.floor.specs.Plans.{Plan, Answer, refused, held, nowhere, rectOf, clear, touchOf, writePlan, drawRead}
-use Rattle.floor.specs.Calls.{load, Board, empty, holding, loads, turns, rectangle, touches, writesJob, writesPlan, refusal}
+use Rattle.floor.specs.Registers.{Partition, writeRegister}
+use Rattle.floor.specs.Calls.{load, Board, empty, holding, loads, turns, rectangle, touches, writesJob, writesPlan, writesRegister, refusal}
 use Rattle.floor.specs.Calls.{refuse, after, asks, writes, touching, step}
 use Rattle.fields.specs.declared.Written.{Written}
 use Rattle.fields.specs.declared.Written.the-variants.{Wrote as WroteSo, TooShort}
@@ -30,6 +31,10 @@ use Rattle.drawing.specs.declared.Drawing.{Drawing}
 use Rattle.drawing.specs.Rects.{rectIn, touchIn, rectsIn, planFrom, planIn, noPlan, heldPlan, inBytes}
 use Rattle.drawing.specs.Drawn.{numberedAny, drawnAny, said, kept as planKept, Draws}
 use Rattle.drawing.proofs.Corollaries.{drawn-any, plan-held, rect-held}
+use Rattle.registers.specs.declared.Register.{Register}
+use Rattle.registers.specs.Sorting.{keptWalls}
+use Rattle.registers.specs.Kept.{noRegister, keptRegister, wallsIn, registerIn}
+use Rattle.registers.proofs.Corollaries.{counted-held, walls-held}
 use Rattle.turns.specs.declared.Swing.{Swing}
 use Rattle.turns.specs.declared.Swing.the-variants.{Stops, Swings}
 use Rattle.turns.specs.InPlace.{swings, swingOf, twoSet, swungIn, turnedIn, twoPut, swingSaid}
@@ -41,9 +46,18 @@ use Rattle.board.specs.declared.Step.{Step as Handed}
 use Rattle.board.specs.Boards.{boardFor, noBoard, boardOf, kept, Plans, replyOf, handed, Outcome, asRules, staying, stayed, newly, turnedTo, outcome, Tells}
 
 -- nothing is held
-pub none-held : (s : Stars) (p : HeldPlan) → s ≡ noStars → p ≡ noPlan → record { stars = s; plan = p } ≡ noBoard
+pub none-held : (s : Stars) (p : HeldPlan) (g : Register) → s ≡ noStars → p ≡ noPlan → g ≡ noRegister → record { stars = s; plan = p; register = g } ≡ noBoard
 unfolding noBoard
-none-held s p e f = rw (e, f)
+none-held s p g e f h = rw (e, f, h)
+
+-- the walls of a held plan, counted from its rectangles
+abbrev Counted : Register → HeldPlan → Type 0
+Counted g p = (w h : ℕ) → g ≡ keptRegister (keptWalls (planFrom w h (p .rooms + 4) (p .rects)))
+
+-- one of each makes one board
+same-board : {s s′ : Stars} {p p′ : HeldPlan} {g g′ : Register} → s ≡ s′ → p ≡ p′ → g ≡ g′
+    → _≡_ {A = HeldBoard} (record { stars = s; plan = p; register = g }) (record { stars = s′; plan = p′; register = g′ })
+same-board e f h = rw (e, f, h)
 
 -- ---- a job planned
 
@@ -90,20 +104,14 @@ module _ (bs : List ℕ) (r : Read) (t : ReadTells r (firstSix (readJob bs))) wh
           let g : drawnAny j ≡ refused k = sym (rw f at (u .says)) in
           refuses q (load bs) k (loads-drawn ∙ g) p
 
-      -- past all of them: drawn, and the stars and the plan are kept
-      pub plan-drawn : d .answer ≡ Drawn → Plans (record { answer = Drawn; board = record { stars = r .stars; plan = d .plan } }) (load bs)
+      -- past all of them: drawn, and the stars, the plan and its walls are kept
+      pub plan-drawn : d .answer ≡ Drawn → (g : Register) → Counted g (d .plan)
+          → Plans (record { answer = Drawn; board = record { stars = r .stars; plan = d .plan; register = g } }) (load bs)
       unfolding said kept planKept boardFor
-      plan-drawn f =
-          let g : drawnAny j ≡ held j (planIn (d .plan)) = sym (rw f at (u .says)) in
-          let h : d .plan ≡ heldPlan (planIn (d .plan)) = rw g at (u .keeps) in
-          record {
-            says = sym (loads-drawn ∙ g);
-            keeps = rw (loads-drawn ∙ g) (same-board (r .stars) (heldOf j) (d .plan) (heldPlan (planIn (d .plan))) stars-held h);
-          }
-        where
-          same-board : (s s′ : Stars) (p p′ : HeldPlan) → s ≡ s′ → p ≡ p′
-              → _≡_ {A = HeldBoard} (record { stars = s; plan = p }) (record { stars = s′; plan = p′ })
-          same-board s s′ p p′ e f = rw (e, f)
+      plan-drawn f g c =
+          let k : drawnAny j ≡ held j (planIn (d .plan)) = sym (rw f at (u .says)) in
+          let h : d .plan ≡ heldPlan (planIn (d .plan)) = rw k at (u .keeps) in
+          record { says = sym (loads-drawn ∙ k); keeps = rw (loads-drawn ∙ k) (same-board stars-held h (counted-held (d .plan) g c)) }
 
 -- ---- refusals
 
@@ -121,16 +129,14 @@ module _ (b : HeldBoard) (s : Stars) (d : Drawing) (x : Answer) (q : Draws d (jo
       let g : x ≡ refused k = sym (rw f at (q .says)) in
       rw g (record { reply = refl; board = refl; buffer = refl })
 
-  -- stars that have their plan are held with it, and the answer is done
-  pub drawn-so : d .answer ≡ Drawn → Tells (record { board = record { stars = s; plan = d .plan }; reply = Done }) [] (newly b s x)
+  -- stars that have their plan are held with it and its walls, and the answer is done
+  pub drawn-so : d .answer ≡ Drawn → (g : Register) → Counted g (d .plan)
+      → Tells (record { board = record { stars = s; plan = d .plan; register = g }; reply = Done }) [] (newly b s x)
   unfolding said planKept newly replyOf
-  drawn-so f =
-      let g : x ≡ held (jobOf s) (planIn (d .plan)) = sym (rw f at (q .says)) in
-      let h : d .plan ≡ heldPlan (planIn (d .plan)) = rw g at (q .keeps) in
-      rw g (record { reply = refl; board = same (d .plan) (heldPlan (planIn (d .plan))) h; buffer = refl })
-    where
-      same : (p p′ : HeldPlan) → p ≡ p′ → _≡_ {A = HeldBoard} (record { stars = s; plan = p }) (record { stars = s; plan = p′ })
-      same p p′ e = rw e
+  drawn-so f g c =
+      let k : x ≡ held (jobOf s) (planIn (d .plan)) = sym (rw f at (q .says)) in
+      let h : d .plan ≡ heldPlan (planIn (d .plan)) = rw k at (q .keeps) in
+      rw k (record { reply = refl; board = same-board refl h (counted-held (d .plan) g c); buffer = refl })
 
 -- ---- load
 
@@ -182,6 +188,11 @@ module _ (b : HeldBoard) (e : b .stars .count ≡ 0) where
   pub ten-plan : (buf : List ℕ) → Tells (record { board = b; reply = Refused 10 }) buf (outcome b (writesPlan buf))
   unfolding outcome asRules handed refuse replyOf
   ten-plan buf = rw (eq-eqb (b .stars .count) 0 e) (record { reply = refl; board = refl; buffer = refl })
+
+  -- the writing of the walls is refused with 10, and the buffer stays
+  pub ten-walls : (buf : List ℕ) → Tells (record { board = b; reply = Refused 10 }) buf (outcome b (writesRegister buf))
+  unfolding outcome asRules handed refuse replyOf
+  ten-walls buf = rw (eq-eqb (b .stars .count) 0 e) (record { reply = refl; board = refl; buffer = refl })
 
 -- ---- a job and a plan are held
 
@@ -339,6 +350,18 @@ module _ (b : HeldBoard) (n : b .stars .count ≡ 0 → ⊥) (buf x : List ℕ) 
   answer-plan e =
       let f = rw (plan-held (b .plan)) at e in
       rw (ne-eqb (b .stars .count) 0 n) (writes-tells b empty _ (inBytes (writePlan (planIn (b .plan)))) buf x q (eq ∙ f .0) (f .1))
+
+  -- the walls that are kept, by their numbers
+  abbrev rows-walls : List Partition
+  rows-walls = wallsIn (b .register .uprights) (b .register .many) 0 (b .register .rows)
+
+  -- what writing the kept walls, one byte of each number, answers and leaves is what the call tells
+  pub answer-walls : (replied w ≡ writing (inBytes (writeRegister rows-walls)) buf .reply) × (x ≡ writing (inBytes (writeRegister rows-walls)) buf .buffer)
+      → Tells (record { board = b; reply = q }) x (outcome b (writesRegister buf))
+  unfolding outcome writing
+  answer-walls e =
+      let f = rw (walls-held (b .register)) at e in
+      rw (ne-eqb (b .stars .count) 0 n) (writes-tells b empty _ (inBytes (writeRegister (registerIn (b .register)))) buf x q (eq ∙ f .0) (f .1))
 
 -- held stars numbered or drawn, as the job that they are
 pub stars-drawn : (f : Job → Answer) (s : Stars) (n : ℕ) (r : Drawing) → n ≡ s .count

@@ -8,9 +8,11 @@ use Rattle.floor.specs.Jobs.{Job, writeJob}
 use Rattle.floor.specs.Jobs.Written.{read-write-job}
 use Rattle.floor.specs.Plans.{Plan, Answer, held}
 use Rattle.floor.specs.Floor.{Floor}
+use Rattle.floor.specs.Registers.{register}
 use Rattle.floor.specs.Calls.{load, Board, empty, holding, Call, loads, turns, writesJob, Reply, refusal, done, wrote, lent, Step, refuse, after, step, run, Restored}
 use Rattle.floor.specs.Calls.Sound.{Sound, sound-good, load-reads}
 use Rattle.floor.specs.Calls.Effects.{refused-leaves, wrote-job, turn-turn}
+use Rattle.registers.specs.Kept.{registerIn}
 use Rattle.board.specs.declared.Board.{Board as HeldBoard}
 use Rattle.board.specs.declared.Reply.{Reply as Said}
 use Rattle.board.specs.declared.Reply.the-variants.{Refused, Done, Wrote}
@@ -18,7 +20,7 @@ use Rattle.board.specs.declared.Step.{Step as Handed}
 use Rattle.board.specs.Boards.{boardFor, noBoard, boardOf, replyOf, handed, asRules, Outcome, outcome, Tells}
 use Rattle.board.specs.Reach.{Reached, at-first, called}
 use Rattle.board.proofs.Corollaries.{saying, saying-back}
-use Rattle.board.proofs.Standing.{Stands, holds-none, holds-both, at-first as holds-nothing, by-rules, stands-on, board-sound, board-holds}
+use Rattle.board.proofs.Standing.{Stands, holds-none, holds-both, at-first as holds-nothing, by-rules, stands-on, board-sound, board-holds, register-is}
 
 -- a reached board stands
 pub reached-stands : (b : HeldBoard) → Reached b → Stands b
@@ -88,6 +90,12 @@ the-board b (holds-both i q s) j p e =
     let x : i ≡ j = cc in
     let y : q ≡ p = cc in
     rw (x, y)
+
+-- W3: THE REGISTER that a reached board keeps is, whenever it holds a plan, what a fresh count from that plan gives
+pub reached-register : (b : HeldBoard) → Reached b → (j : Job) (p : Plan) → boardOf b ≡ holding j p → registerIn (b .register) ≡ register p
+reached-register b h j p e =
+    let s = reached-stands b h in
+    ap (λ (a : HeldBoard). registerIn (a .register)) (sym (the-board b s j p e)) ∙ register-is j p (board-sound b s j p e)
 
 -- where a call is done and a job and plan are then held, the board of these is handed back
 done-hands : (b : HeldBoard) (j : Job) (p : Plan) (x : Reply) (a : Board) → x ≡ done → a ≡ holding j p → handed b x a ≡ boardFor j p

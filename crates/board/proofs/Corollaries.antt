@@ -1,23 +1,28 @@
 -- What follows from the promises of the calls. Assumes nothing.
-use Prim.Native.Nat.{ℕ}
+use Prim.Native.Nat.{ℕ, _≤_}
 use mathlib.Core.Path.{_≡_, refl, sym, ap, _∙_}
 use mathlib.Core.List.{List}
 use Rattle.floor.specs.Jobs.{Job}
-use Rattle.floor.specs.Plans.{Plan, Answer, clear, wall}
+use Rattle.floor.specs.Plans.{Plan, Answer, held, clear, wall}
 use Rattle.floor.specs.Plans.Held.{not-held, one-number}
-use Rattle.floor.specs.Calls.{Reply, refusal, done, spans, touch, wrote}
+use Rattle.floor.specs.Registers.{register}
+use Rattle.floor.specs.Calls.{load, Reply, refusal, done, spans, touch, wrote}
+use Rattle.floor.specs.Calls.Sound.{load-held}
 use Rattle.stars.specs.Held.{jobOf}
 use Rattle.drawing.specs.Rects.{rectIn, touchIn, planIn}
 use Rattle.drawing.specs.declared.Touch.the-variants.{Clear, Wall}
 use Rattle.drawing.specs.declared.Answer.{Answer as Judged}
 use Rattle.drawing.specs.declared.Answer.the-variants.{Drawn, Refused as Undrawn}
 use Rattle.drawing.specs.Drawn.{said}
+use Rattle.registers.specs.Kept.{registerIn}
+use Rattle.registers.proofs.Corollaries.{few-kept}
 use Rattle.board.specs.declared.Board.{Board as HeldBoard}
 use Rattle.board.specs.declared.Planned.{Planned}
 use Rattle.board.specs.declared.Reply.{Reply as Said}
 use Rattle.board.specs.declared.Reply.the-variants.{Refused, Done, Spans, Touched, Wrote}
 use Rattle.board.specs.declared.Step.{Step as Handed}
-use Rattle.board.specs.Boards.{Plans, replyOf, Outcome, Tells}
+use Rattle.board.specs.Boards.{boardFor, kept, Plans, replyOf, Outcome, Tells}
+use Rattle.board.proofs.Standing.{register-is}
 
 -- ---- one answer
 
@@ -69,3 +74,25 @@ one-planned x r t p q =
     let f : said (r .answer) (jobOf (t .board .stars)) (planIn (t .board .plan)) ≡ x
     = ap (λ (c : HeldBoard). said (r .answer) (jobOf (c .stars)) (planIn (c .plan))) (sym e) ∙ p .says in
     same-planned (r .answer) (t .answer) (r .board) (t .board) (same-judged (r .answer) (t .answer) _ _ x f (q .says)) e
+
+-- ---- the walls of a job planned
+
+module _ (bs : List ℕ) (r : Planned) (t : Plans r (load bs)) (d : r .answer ≡ Drawn) where
+  -- loading it comes to the job and plan that its board holds
+  loads-so : load bs ≡ held (jobOf (r .board .stars)) (planIn (r .board .plan))
+  unfolding said
+  loads-so = sym (rw d at (t .says))
+
+  -- the board is as a load of these leaves it
+  board-so : r .board ≡ boardFor (jobOf (r .board .stars)) (planIn (r .board .plan))
+  unfolding kept
+  board-so = rw loads-so at (t .keeps)
+
+  -- THE REGISTER OF A JOB PLANNED is what a fresh count from its plan gives
+  pub planned-register : registerIn (r .board .register) ≡ register (planIn (r .board .plan))
+  planned-register = ap (λ (b : HeldBoard). registerIn (b .register)) board-so ∙ register-is _ _ (load-held bs _ _ loads-so .1)
+
+  -- and has at most 64 walls
+  pub planned-few : r .board .register .many ≤ 64
+  unfolding boardFor
+  planned-few = rw (ap (λ (b : HeldBoard). b .register .many) board-so) (few-kept _)

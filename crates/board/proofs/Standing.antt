@@ -15,7 +15,8 @@ use Rattle.floor.specs.Plans.{Plan, planOf, Answer, refused, held, drawRead, wr
 use Rattle.floor.specs.Floor.Elsewhere.{Ours}
 use Rattle.floor.specs.Turns.{turning, turn, Kept}
 use Rattle.floor.specs.Turns.Restore.{turnable, turned-keeps}
-use Rattle.floor.specs.Calls.{load, Board, empty, holding, Call, loads, turns, rectangle, touches, writesJob, writesPlan, Reply}
+use Rattle.floor.specs.Registers.{Partition, register, writeRegister}
+use Rattle.floor.specs.Calls.{load, Board, empty, holding, Call, loads, turns, rectangle, touches, writesJob, writesPlan, writesRegister, Reply}
 use Rattle.floor.specs.Calls.{refuse, after, asks, writes, step}
 use Rattle.floor.specs.Calls.Sound.{Sound, sound-good, some-room, load-held, turn-held}
 use Rattle.floor.specs.Calls.Always.{reads-numbered, reads-held}
@@ -24,9 +25,12 @@ use Rattle.fields.specs.Writes.{writing}
 use Rattle.stars.specs.Held.{jobOf, noStars, heldOf}
 use Rattle.stars.proofs.Holding.{length-stars}
 use Rattle.stars.proofs.Back.{job-back}
-use Rattle.drawing.specs.Rects.{planIn, heldPlan}
+use Rattle.drawing.specs.Rects.{planIn, heldPlan, inBytes}
 use Rattle.drawing.specs.Drawn.{numberedAny}
 use Rattle.drawing.proofs.Corollaries.{numbered-any, bytes-kept, plan-back as drawn-back}
+use Rattle.registers.specs.Sorting.{keptWalls}
+use Rattle.registers.specs.Kept.{keptRegister, registerIn}
+use Rattle.registers.proofs.Corollaries.{kept-right, held-back, held-written}
 use Rattle.turns.specs.InPlace.{Swing, stops, swings, swingOf, twoTurned, turnedJob, twoPut}
 use Rattle.turns.proofs.Placing.{turning-swings}
 use Rattle.turns.proofs.TurnedStars.{held-turned}
@@ -85,6 +89,19 @@ module _ (j : Job) (p : Plan) (s : Sound j p) where
   unfolding boardFor
   plan-is = plan-back
 
+  -- its register is kept of the plan's walls, counted afresh
+  walls-are : boardFor j p .register ≡ keptRegister (register p)
+  unfolding boardFor
+  walls-are = ap (λ (ws : List Partition). keptRegister ws) (kept-right j p s)
+
+  -- and gives them back
+  pub register-is : registerIn (boardFor j p .register) ≡ register p
+  register-is = rw walls-are (held-back j p s)
+
+  -- written, they are the register's bytes
+  walls-written : inBytes (writeRegister (registerIn (boardFor j p .register))) ≡ writeRegister (register p)
+  walls-written = rw walls-are (held-written j p s)
+
 -- the board at first holds nothing
 pub at-first : boardOf noBoard ≡ empty
 unfolding boardOf noBoard noStars
@@ -138,7 +155,7 @@ module _ (j : Job) (p : Plan) (s : Sound j p) (u v : ℕ) where
           let (back, q, is, so) = turned-held (twoTurned j a b t) (turning-swings j u v ∙ ap (turnedJob j) f) in
           rw (so, two-held a b t f, back, is) (held-rules (boardFor j p) (holding j p) (twoTurned j a b t) q)
 
--- ---- a plan written
+-- ---- a plan and its walls written
 
 -- what a writing hands back does not go by what the board holds
 writes-same : (b : HeldBoard) (a c : Board) (t : Bool) (bs buf : List ℕ) → asRules b (writes a t bs buf) ≡ asRules b (writes c t bs buf)
@@ -156,6 +173,11 @@ none-writes : (buf : List ℕ) → outcome noBoard (writesPlan buf) ≡ asRules 
 unfolding outcome boardOf noBoard noStars step
 none-writes buf = refl
 
+-- and so is the writing of the walls
+none-walls : (buf : List ℕ) → outcome noBoard (writesRegister buf) ≡ asRules noBoard (step (boardOf noBoard) (writesRegister buf))
+unfolding outcome boardOf noBoard noStars step
+none-walls buf = refl
+
 -- WHERE A BOARD STANDS, THE OUTCOME OF ANY CALL IS THAT OF THE RULES
 pub by-rules : (b : HeldBoard) → Stands b → (c : Call) → outcome b c ≡ asRules b (step (boardOf b) c)
 unfolding outcome step writing
@@ -165,11 +187,15 @@ by-rules b s (touches u v) = refl
 by-rules b s (writesJob buf) = refl
 by-rules b holds-none (turns u v) = none-turns u v
 by-rules b holds-none (writesPlan buf) = none-writes buf
+by-rules b holds-none (writesRegister buf) = none-walls buf
 by-rules b (holds-both j p s) (turns u v) =
     rw (board-holds j p s, ne-eqb (boardFor j p .stars .count) 0 (some-held j p s), job-is j p s) (turn-rules j p s u v)
 by-rules b (holds-both j p s) (writesPlan buf) =
     rw (board-holds j p s, ne-eqb (boardFor j p .stars .count) 0 (some-held j p s), plan-is j p s, bytes-kept (writePlan p) (plan-bytes j p s))
     (writes-same (boardFor j p) empty (holding j p) (leb (length (writePlan p)) (length buf)) (writePlan p) buf)
+by-rules b (holds-both j p s) (writesRegister buf) =
+    rw (board-holds j p s, ne-eqb (boardFor j p .stars .count) 0 (some-held j p s), walls-written j p s)
+    (writes-same (boardFor j p) empty (holding j p) (leb (length (writeRegister (register p))) (length buf)) (writeRegister (register p)) buf)
 
 -- ---- what a call leaves
 
@@ -221,11 +247,13 @@ left-step b empty h (rectangle v) = h
 left-step b empty h (touches u v) = h
 left-step b empty h (writesJob buf) = h
 left-step b empty h (writesPlan buf) = h
+left-step b empty h (writesRegister buf) = h
 left-step b (holding i q) h (turns u v) = left-after b (holding i q) h (turn i u v) (λ j p e. turn-held i q u v j p (sound-of b (h .0) i q (h .1)) e)
 left-step b (holding i q) h (rectangle v) = left-asks b (holding i q) h _ _ refl
 left-step b (holding i q) h (touches u v) = left-asks b (holding i q) h _ _ refl
 left-step b (holding i q) h (writesJob buf) = left-writes b (holding i q) h _ (writeJob i) buf
 left-step b (holding i q) h (writesPlan buf) = left-writes b (holding i q) h _ (writePlan q) buf
+left-step b (holding i q) h (writesRegister buf) = left-writes b (holding i q) h _ (writeRegister (register q)) buf
 
 -- WHERE A BOARD STANDS, the board that a call hands back stands and holds what the rules say
 pub stands-on : (b : HeldBoard) → Stands b → (c : Call) → Holds (outcome b c .board) (step (boardOf b) c .board)

@@ -6,13 +6,16 @@ use mathlib.Core.List.{List, []}
 use lib.Dec.{eqb}
 use Rattle.floor.specs.Jobs.{Job}
 use Rattle.floor.specs.Plans.{Plan, Answer, refused, held, writePlan}
-use Rattle.floor.specs.Calls.{Board, empty, holding, Call, loads, turns, rectangle, touches, writesJob, writesPlan}
+use Rattle.floor.specs.Registers.{writeRegister}
+use Rattle.floor.specs.Calls.{Board, empty, holding, Call, loads, turns, rectangle, touches, writesJob, writesPlan, writesRegister}
 use Rattle.floor.specs.Calls.{Reply, refusal, done, spans, touch, wrote, Step, refuse, step}
 use Rattle.fields.specs.Writes.{writing}
 use Rattle.stars.specs.declared.Stars.{Stars}
 use Rattle.stars.specs.Held.{jobOf, noStars, heldOf}
 use Rattle.drawing.specs.Rects.{rectIn, touchIn, planIn, inBytes, noPlan, heldPlan}
 use Rattle.drawing.specs.Drawn.{numberedAny, said}
+use Rattle.registers.specs.Sorting.{keptWalls}
+use Rattle.registers.specs.Kept.{noRegister, keptRegister, registerIn}
 use Rattle.turns.specs.InPlace.{Swing, stops, swings, swingOf, twoPut}
 use Rattle.board.specs.declared.Board.{Board as HeldBoard}
 use Rattle.board.specs.declared.Planned.{Planned}
@@ -20,13 +23,13 @@ use Rattle.board.specs.declared.Reply.{Reply as Said}
 use Rattle.board.specs.declared.Reply.the-variants.{Refused, Done, Spans, Touched, Wrote}
 use Rattle.board.specs.declared.Step.{Step as Handed}
 
--- THE BOARD AS A LOAD LEAVES IT: the stars of the job and the rectangles of the plan
+-- THE BOARD AS A LOAD LEAVES IT: the stars of the job, the rectangles of the plan, and its walls, counted from it
 unfoldable pub boardFor : Job → Plan → HeldBoard
-boardFor j p = record { stars = heldOf j; plan = heldPlan p }
+boardFor j p = record { stars = heldOf j; plan = heldPlan p; register = keptRegister (keptWalls p) }
 
 -- the board at first: nothing is held
 unfoldable pub noBoard : HeldBoard
-noBoard = record { stars = noStars; plan = noPlan }
+noBoard = record { stars = noStars; plan = noPlan; register = noRegister }
 
 -- WHAT A BOARD HOLDS, whatever stands in it: nothing where it has no room, and else the job of its stars, and its plan
 unfoldable pub boardOf : HeldBoard → Board
@@ -77,18 +80,18 @@ staying b k = record { board = b; reply = refusal k; buffer = [] }
 abbrev pub stayed : HeldBoard → ℕ → Handed
 stayed b k = record { board = b; reply = Refused k }
 
--- these stars numbered: held with their plan, or all stays as it was
+-- these stars numbered: held with their plan and its walls, counted afresh, or all stays as it was
 unfoldable pub newly : HeldBoard → Stars → Answer → Outcome
 newly b s (refused k) = staying b k
-newly b s (held j p) = record { board = record { stars = s; plan = heldPlan p }; reply = done; buffer = [] }
+newly b s (held j p) = record { board = record { stars = s; plan = heldPlan p; register = keptRegister (keptWalls p) }; reply = done; buffer = [] }
 
 -- a contact turned where it stands, and the stars numbered afresh: the plan of what calls reach needs no test
 unfoldable pub turnedTo : HeldBoard → Swing → Outcome
 turnedTo b (stops k) = staying b k
 turnedTo b (swings u v t) = newly b (twoPut (b .stars) u v t) (numberedAny (jobOf (twoPut (b .stars) u v t)))
 
--- ONE CALL ON ANY BOARD, whatever stands in it: of what it holds as the rules say; a contact is turned in the very stars, and of a plan one byte of each
--- number is written
+-- ONE CALL ON ANY BOARD, whatever stands in it: of what it holds as the rules say; a contact is turned in the very stars, and of the plan and of the register
+-- one byte of each number is written
 unfoldable pub outcome : HeldBoard → Call → Outcome
 outcome b (loads bs) = asRules b (step (boardOf b) (loads bs))
 outcome b (turns u v) = cond (eqb (b .stars .count) 0) (staying b 10) (turnedTo b (swingOf (jobOf (b .stars)) u v))
@@ -97,6 +100,8 @@ outcome b (touches u v) = asRules b (step (boardOf b) (touches u v))
 outcome b (writesJob buf) = asRules b (step (boardOf b) (writesJob buf))
 outcome b (writesPlan buf) =
     asRules b (cond (eqb (b .stars .count) 0) (refuse empty 10 buf) (writing (inBytes (writePlan (planIn (b .plan)))) buf))
+outcome b (writesRegister buf) =
+    asRules b (cond (eqb (b .stars .count) 0) (refuse empty 10 buf) (writing (inBytes (writeRegister (registerIn (b .register)))) buf))
 
 -- A CALL'S PROMISE: reply, board and every byte of the lent buffer are those of the outcome
 pub record Tells (r : Handed) (buf : List ℕ) (s : Outcome) : Type 0 where

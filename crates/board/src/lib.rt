@@ -1,7 +1,7 @@
 // The board: load, questions, writing. It goes in by value and comes back from each call.
 ghost use mathlib.Core.Path.{_≡_};
 ghost use mathlib.Core.List.{[]};
-ghost use Rattle.floor.specs.Calls.{load, loads, turns, rectangle, touches, writesJob, writesPlan};
+ghost use Rattle.floor.specs.Calls.{load, loads, turns, rectangle, touches, writesJob, writesPlan, writesRegister};
 ghost use Rattle.drawing.specs.declared.Answer.the-variants.{Refused};
 ghost use Rattle.stars.specs.Held.{jobOf};
 ghost use Rattle.drawing.specs.Drawn.{numberedAny, drawnAny, Draws};
@@ -10,14 +10,16 @@ use drawing::Drawing;
 use drawing::Plan;
 use drawing::Rect;
 use drawing::Touch;
+use registers::Register;
 use stars::Stars;
 
 mod questions; // questions.rt: what the questions and writings ask
 
-// What is held: a job, turns included, as its stars, and its plan.
+// What is held: a job, turns included, as its stars, its plan, and the register of the plan's walls.
 pub struct Board {
     pub stars: Stars,
     pub plan: Plan,
+    pub register: Register,
 }
 
 // A job planned: the answer of tests 1 to 7 and 9, and the board of it, none where it is refused.
@@ -46,10 +48,12 @@ pub fn empty() -> Board
     ensures { λ r. ⌜ r ≡ noBoard ⌝ }
 {
     let stars = stars::held::none_held();
-    let none = drawing::no_plan();
+    let plan = drawing::no_plan();
+    let register = registers::no_register();
     Board {
         stars: stars,
-        plan: none,
+        plan: plan,
+        register: register,
     }
 }
 
@@ -82,7 +86,7 @@ fn stays(board: Board, k: u8) -> Step
     }
 }
 
-// Turned stars numbered afresh, and held with their plan; all stays as it was where test 7 fails.
+// Turned stars numbered afresh, and held with their plan and its walls, counted afresh; all stays as it was where test 7 fails.
 fn hold_numbered(kept: Board, next: Stars) -> Step
     ensures { λ r. ⌜ Tells r [] (newly kept next (numberedAny (jobOf next))) ⌝ }
 {
@@ -91,18 +95,22 @@ fn hold_numbered(kept: Board, next: Stars) -> Step
     let fresh = drawing.plan;
     let drawn = drawing.answer;
     match drawn {
-        drawing::Answer::Drawn => Step {
-            board: Board {
-                stars: next,
-                plan: fresh,
-            },
-            reply: Reply::Done,
-        },
+        drawing::Answer::Drawn => {
+            let register = registers::register_of(&fresh.rects, fresh.rooms);
+            Step {
+                board: Board {
+                    stars: next,
+                    plan: fresh,
+                    register: register,
+                },
+                reply: Reply::Done,
+            }
+        }
         drawing::Answer::Refused(k) => stays(kept, k),
     }
 }
 
-// A job's bytes planned: tests 1 to 7 and 9.
+// A job's bytes planned: tests 1 to 7 and 9; the walls of its plan are counted.
 pub fn plan_job(job: &[u8]) -> Planned
     ensures { λ r. ⌜ Plans r (load (now (job .entry))) ⌝ }
 {
@@ -115,13 +123,17 @@ pub fn plan_job(job: &[u8]) -> Planned
             let plan = drawing.plan;
             let drawn = drawing.answer;
             match drawn {
-                drawing::Answer::Drawn => Planned {
-                    answer: drawing::Answer::Drawn,
-                    board: Board {
-                        stars: stars,
-                        plan: plan,
-                    },
-                },
+                drawing::Answer::Drawn => {
+                    let register = registers::register_of(&plan.rects, plan.rooms);
+                    Planned {
+                        answer: drawing::Answer::Drawn,
+                        board: Board {
+                            stars: stars,
+                            plan: plan,
+                            register: register,
+                        },
+                    }
+                }
                 drawing::Answer::Refused(k) => refused(k),
             }
         }
@@ -247,6 +259,26 @@ impl Board {
             self.plan.height,
             self.plan.rooms,
             &self.plan.rects,
+            out,
+        );
+        let reply = questions::written_reply(written);
+        Step {
+            board: self,
+            reply: reply,
+        }
+    }
+
+    // The register of walls, written to the front of a lent buffer: 10, 14.
+    pub fn write_walls(self, out: &mut [u8]) -> Step
+        ensures { λ r. ⌜ Tells r (now (out .exit)) (outcome self (writesRegister (now (out .entry)))) ⌝ }
+    {
+        if self.stars.count == 0 {
+            return stays(self, 10);
+        }
+        let written = registers::write_register(
+            &self.register.rows,
+            self.register.uprights,
+            self.register.many,
             out,
         );
         let reply = questions::written_reply(written);

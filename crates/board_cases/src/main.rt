@@ -68,19 +68,19 @@ fn show_touches(board: Board) {
     show(b"  5 seen from 4:", reply);
 }
 
-// The width as the bytes of a plan have it.
-fn show_width(reply: Reply, width: u8) {
+// One byte of what was written, with its name, where anything was.
+fn show_byte(reply: Reply, name: &[u8], byte: u8) {
     match reply {
         Reply::Wrote(_) => {
-            io::write_all(1, b"  its width:");
-            show_number(fields::wide(width));
+            io::write_all(1, name);
+            show_number(fields::wide(byte));
             io::write_all(1, b"\n");
         }
         _ => {}
     }
 }
 
-// The job and the plan, written.
+// The job, the plan and its walls, written.
 fn show_written(board: Board) {
     let mut out = [0u8; 4096];
     let first = board.write_job(&mut out);
@@ -89,7 +89,12 @@ fn show_written(board: Board) {
     let second = board.write_plan(&mut out);
     let plan = second.reply;
     show(b"  the plan:", plan);
-    show_width(plan, out[3]);
+    show_byte(plan, b"  its width:", out[3]);
+    let mut list = [0u8; 4096];
+    let third = board.write_walls(&mut list);
+    let walls = third.reply;
+    show(b"  the walls:", walls);
+    show_byte(walls, b"  where the first ends:", list[6]);
 }
 
 // The contact of rooms 5 and 6 turned, and the rectangle of 5 then.
@@ -117,25 +122,30 @@ fn uncounted(board: Board) -> Board {
     next
 }
 
-// The stars of the board, and no plan: a vertex past its rectangles lies nowhere.
+// The stars of the board, and no plan and no walls: a vertex past its rectangles lies nowhere.
 fn unplanned(board: Board) -> Board {
     let stars = board.stars;
     let none = drawing::no_plan();
+    let register = registers::no_register();
     Board {
         stars: stars,
         plan: none,
+        register: register,
     }
 }
 
-// Room 5 a cell wider, and the sheet by 256, of which a byte is written.
+// Room 5 a cell wider, and the sheet and the first wall by 256, of which a byte is written.
 fn wider(board: Board) -> Board {
     let stars = board.stars;
     let mut plan = board.plan;
     plan.width = 260;
     plan.rects[22] = 4;
+    let mut register = board.register;
+    register.rows[2] = 260;
     Board {
         stars: stars,
         plan: plan,
+        register: register,
     }
 }
 
@@ -144,17 +154,20 @@ fn overrun(board: Board) -> Board {
     let mut stars = board.stars;
     stars.ends[3] = 65535;
     let plan = board.plan;
+    let register = board.register;
     Board {
         stars: stars,
         plan: plan,
+        register: register,
     }
 }
 
-// As many rooms as a byte counts.
+// As many rooms as a byte counts, and more walls than rows.
 fn crowded(board: Board) -> Board {
     let mut next = board;
     next.stars.count = 255;
     next.plan.rooms = 255;
+    next.register.many = 300;
     next
 }
 

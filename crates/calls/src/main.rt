@@ -23,6 +23,8 @@ const WRITE_PLAN: u8 = 37;
 
 const STAR: u8 = 38;
 
+const WRITE_WALLS: u8 = 39;
+
 // What stands after a field: the board, and whether another field may follow.
 struct Session {
     board: Board,
@@ -150,12 +152,13 @@ fn touch(board: Board, value: &[u8]) -> Session {
     told(step, b"")
 }
 
-// The held job or the held plan, as the tag says, written to a lent buffer.
+// The held job, the held plan or its walls, as the tag says, written to a lent buffer.
 fn written(board: Board, tag: u8, lent: &mut [u8]) -> Step {
-    if tag == WRITE_JOB {
-        return board.write_job(lent);
+    match tag {
+        WRITE_JOB => board.write_job(lent),
+        WRITE_PLAN => board.write_plan(lent),
+        _ => board.write_walls(lent),
     }
-    board.write_plan(lent)
 }
 
 // A writing into the front of a buffer, of which so many bytes are lent.
@@ -205,7 +208,7 @@ fn call(board: Board, tag: u8, value: &[u8]) -> Session {
         TURN => turn(board, value),
         RECTANGLE => rectangle(board, value),
         TOUCH => touch(board, value),
-        WRITE_JOB | WRITE_PLAN => write(board, tag, value),
+        WRITE_JOB | WRITE_PLAN | WRITE_WALLS => write(board, tag, value),
         STAR => star(board, value),
         _ => broken(board),
     }

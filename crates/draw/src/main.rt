@@ -11,6 +11,7 @@ mod mark; // mark.rt: the fingerprint of a job's bytes
 mod tints; // tints.rt: tints that differ between neighbours
 mod names; // names.rt: what a rectangle is called, and its tint
 mod rooms; // rooms.rt: the rectangles: ground, outline and number
+mod walls; // walls.rt: the marks of the walls, as in the joiner's list
 mod grid; // grid.rt: the lines of the cells
 mod sides; // sides.rt: numbers along the sheet's sides
 mod words; // words.rt: which job it is, and how the picture is read
@@ -45,12 +46,13 @@ fn head(sheet: Sheet) {
     pen::word(b" fill=\"#ffffff\"/>\n");
 }
 
-// The floor: grounds, the grid over them, walls and numbers over both, then what stands along the sides.
+// The floor: grounds, the grid over them, walls and numbers over both, the walls' marks on them, then what stands along the sides.
 fn floor(sheet: Sheet, plan: Plan) {
     let tints = tints::tints_of(plan);
     rooms::paint_all(Layer::Ground, sheet, plan, &tints);
     grid::grid(sheet);
     rooms::paint_all(Layer::Outline, sheet, plan, &tints);
+    walls::mark_all(sheet, &plan.rects, plan.rooms);
     sides::sides(sheet);
 }
 

@@ -37,7 +37,19 @@ fn lesser(a: usize, b: usize) -> usize {
     b
 }
 
-// The size of a rectangle's number by its shorter side: two digits fit across it.
+// The size of a number where the shorter side is one of the smaller cells; the frame has letters, one to a side.
+fn small(sheet: Sheet, r: Rect) -> usize
+    ensures { λ size. ⌜ size ≤ 28 ⌝ }
+{
+    if 4 <= r.vertex {
+        if place::span(sheet, r.x1, r.x2) < 24 {
+            return 10;
+        }
+    }
+    12
+}
+
+// The size of a rectangle's number by its shorter side: two digits fit across it, in a narrow room between the marks of its walls.
 fn size_of(sheet: Sheet, r: Rect) -> usize
     ensures { λ size. ⌜ size ≤ 28 ⌝ }
 {
@@ -45,8 +57,8 @@ fn size_of(sheet: Sheet, r: Rect) -> usize
         place::span(sheet, r.x1, r.x2),
         place::span(sheet, r.y1, r.y2),
     );
-    if side < 24 {
-        return 12;
+    if side < 30 {
+        return small(sheet, r);
     }
     if side < 40 {
         return 14;

@@ -50,9 +50,9 @@ fn before(n: u16) -> usize {
 // What the frame is, and between which lines the rooms lie.
 fn frame(sheet: Sheet) {
     let bottom = place::down(sheet, 0);
-    open(sheet, bottom + 34, 11);
+    open(sheet, bottom + 30, 11);
     pen::word(b">The grey strip, one cell wide, is the frame: sides N, W, S and E.</text>\n");
-    open(sheet, bottom + 49, 11);
+    open(sheet, bottom + 43, 11);
     pen::word(b">Rooms begin at line 1 and end at line ");
     pen::number(before(sheet.width));
     pen::word(b" across and line ");
@@ -60,9 +60,15 @@ fn frame(sheet: Sheet) {
     pen::word(b" up.</text>\n");
 }
 
+// How the walls are marked, as in the joiner's list.
+fn marks(sheet: Sheet) {
+    open(sheet, place::down(sheet, 0) + 56, 11);
+    pen::word(b">Walls are marked as in the joiner's list: W upright, L level.</text>\n");
+}
+
 // How the lines are counted, and how large a cell is where the page is large enough.
 fn scale(sheet: Sheet) {
-    open(sheet, place::down(sheet, 0) + 64, 11);
+    open(sheet, place::down(sheet, 0) + 69, 11);
     pen::word(b">x runs west to east, y south to north. At full size a cell is ");
     pen::tenths(place::cell(sheet) * 3);
     pen::word(b" mm.</text>\n");
@@ -71,5 +77,6 @@ fn scale(sheet: Sheet) {
 // How the picture is read.
 pub fn key(sheet: Sheet) {
     frame(sheet);
+    marks(sheet);
     scale(sheet);
 }

@@ -1,10 +1,11 @@
 -- THE THREE DEMANDS of the customer, as theorems. Assumes nothing.
-use Prim.Native.Nat.{ℕ, _+_, _≤_, _<_}
+use Prim.Native.Nat.{ℕ, _+_, _≤_, _<_, _*_}
 use mathlib.Core.Path.{_≡_}
 use mathlib.Core.Logic.{_⊎_, _↔_}
 use mathlib.Core.Option.{some}
 use mathlib.Core.List.{List, map, List·Memᴰ}
 use lib.ListN.{length}
+use Rattle.floor.specs.Lists.{sum}
 use Rattle.floor.specs.Fields.{Bytes}
 use Rattle.floor.specs.Jobs.{Job, Vertex, Labelling, writeJob, Entry, Star, OnlyStarts, reads, readJob, Room, opposite, starOf}
 use Rattle.floor.specs.Jobs.Facts.{labelling-passes}
@@ -19,6 +20,9 @@ use Rattle.floor.specs.Turns.Restore.{turned-keeps}
 use Rattle.floor.specs.Calls.{load, Board, empty, holding, Call, loads, turns, refusal, done, lent, step, run, Accepted, Answers, Left, Restored}
 use Rattle.floor.specs.Calls.{BoardsAlike, StepsAlike, WellHeld, ofLoad, Turned, touching}
 use Rattle.floor.specs.Calls.Sound.{Sound, some-room, sound-good, any-calls-sound, SoundBoard, step-sound, run-sound}
+use Rattle.floor.specs.Registers.{Register, register, Partition}
+use Rattle.floor.specs.Registers.Unique.{one-register}
+use Rattle.floor.specs.Calls.Registered.{held-register, held-walls, held-sides}
 use Rattle.floor.specs.Calls.Touching.{touch-joined, touch-borders, touching-back, touch-label, touch-twice, frame-touch, frame-clear}
 use Rattle.floor.specs.Calls.Effects.{refused-leaves, write-load, load-write, turn-turn}
 use Rattle.floor.specs.Calls.Always.{turn-done, turn-refused}
@@ -122,6 +126,20 @@ any-calls-frame cs j p h =
 -- and one vertex asked twice has none.
 pub any-calls-twice : (cs : List Call) (j : Job) (p : Plan) → run empty cs ≡ holding j p → (u : ℕ) → touching p u u ≡ clear
 any-calls-twice cs j p h u = touch-twice p u
+
+-- The register counted afresh from the plan now held enters every wall of the job now held once, in order: from the least beginning to the greatest end of
+-- the room sides on it, and how many they are.
+pub any-calls-register : (cs : List Call) (j : Job) (p : Plan) → run empty cs ≡ holding j p → Register j p (register p)
+any-calls-register cs j p h = held-register j p (any-calls-sound cs j p h)
+
+-- There is one such register only; it has n + 3 walls, and 4 n room sides on them.
+pub any-calls-walls : (cs : List Call) (j : Job) (p : Plan) → run empty cs ≡ holding j p
+    → ((l : List Partition) → Register j p l → l ≡ register p)
+    × (length (register p) ≡ length j + 3)
+    × (sum (map (λ w. w .sides) (register p)) ≡ 4 * length j)
+any-calls-walls cs j p h =
+    let s : Sound j p = any-calls-sound cs j p h in
+    (λ l r. one-register j p l (register p) r (held-register j p s), held-walls j p s, held-sides j p s)
 
 -- A job that has passed every earlier test is refused as undrawable exactly when its numbered rectangles break one of these.
 pub undrawable-exactly : (j : Job) → Labelling j → 0 < length j → (f g : List ℕ) → jobNumbers upright j ≡ some f → jobNumbers level j ≡ some g

@@ -14,9 +14,11 @@ use Rattle.floor.specs.Walls.{entryRules, starRules, rulesFrom, raise, r
 use Rattle.floor.specs.Plans.{Rect, rectOf, roomRect, planOf, inside, overlap, abut, apart, area, corner, nextSide, joined, sharesJoined, follows}
 use Rattle.floor.specs.Plans.{inOrder, roundInOrder, drawable, past, tested, planned, drawn, drawRead, rectBytes, writeRects, writePlan, isWall, onLine}
 use Rattle.floor.specs.Plans.{facing, touchOn, touchOf, clear, wall}
+use Rattle.floor.specs.Registers.{lowSide, highSide, wideOf, longOf, sidesIn, roomSides, built, starts, endFrom, between, partition, wallsOn, wallsOf}
+use Rattle.floor.specs.Registers.{registerOf, register, partitionBytes, writeRegister}
 use Rattle.floor.specs.Turns.{turnedKind, withKind, endsAt, isLast, turned, turningAt, turningFrom, inContact, turning, turn}
 use Rattle.floor.specs.Calls.{Board, empty, holding, Call, loads, turns, rectangle, writesJob, writesPlan, Reply, refusal, done, spans, wrote, Step, load}
-use Rattle.floor.specs.Calls.{refuse, after, asks, writes, step, run, touches, touch, touching}
+use Rattle.floor.specs.Calls.{refuse, after, asks, writes, step, run, touches, touch, touching, writesRegister}
 
 -- P1: one room
 p1 : List ℕ
@@ -134,6 +136,18 @@ planP1 =
     ∷ 4 ∷ 0 ∷ 5 ∷ 0 ∷ 1 ∷ 2 ∷ 2 ∷ 3 ∷ 4 ∷ 0 ∷ 5 ∷ 1 ∷ 0 ∷ 0 ∷ 1 ∷ 3
     ∷ 4 ∷ 0 ∷ 5 ∷ 2 ∷ 1 ∷ 0 ∷ 2 ∷ 1 ∷ 4 ∷ 0 ∷ 5 ∷ 3 ∷ 2 ∷ 0 ∷ 3 ∷ 3
     ∷ 4 ∷ 0 ∷ 5 ∷ 4 ∷ 1 ∷ 1 ∷ 2 ∷ 2 ∷ []
+
+-- the register of P1 as bytes
+registerP1 : List ℕ
+registerP1 =
+    8 ∷ 0 ∷ 5 ∷ 0 ∷ 1 ∷ 1 ∷ 2 ∷ 1 ∷ 8 ∷ 0 ∷ 5 ∷ 0 ∷ 2 ∷ 1 ∷ 2 ∷ 1
+    ∷ 8 ∷ 0 ∷ 5 ∷ 1 ∷ 1 ∷ 1 ∷ 2 ∷ 1 ∷ 8 ∷ 0 ∷ 5 ∷ 1 ∷ 2 ∷ 1 ∷ 2 ∷ 1 ∷ []
+
+-- the register of F as bytes
+registerF : List ℕ
+registerF =
+    8 ∷ 0 ∷ 5 ∷ 0 ∷ 1 ∷ 1 ∷ 4 ∷ 2 ∷ 8 ∷ 0 ∷ 5 ∷ 0 ∷ 2 ∷ 1 ∷ 4 ∷ 4 ∷ 8 ∷ 0 ∷ 5 ∷ 0 ∷ 3 ∷ 1 ∷ 4 ∷ 2
+    ∷ 8 ∷ 0 ∷ 5 ∷ 1 ∷ 1 ∷ 1 ∷ 3 ∷ 2 ∷ 8 ∷ 0 ∷ 5 ∷ 1 ∷ 2 ∷ 2 ∷ 3 ∷ 2 ∷ 8 ∷ 0 ∷ 5 ∷ 1 ∷ 3 ∷ 1 ∷ 2 ∷ 2 ∷ 8 ∷ 0 ∷ 5 ∷ 1 ∷ 4 ∷ 1 ∷ 3 ∷ 2 ∷ []
 
 -- the star of room v of n in a row: N above, to the left the room before or W, S below, to the right the room after or E
 unfoldable rowStar : ℕ → ℕ → Star
@@ -280,15 +294,25 @@ table =
     -- the job of P1 written: 15 bytes, and the two behind untouched
     record { before = loads p1 ∷ []; last = writesJob (replicate 17 9); shows = 15 ∷ (p1 ++ 9 ∷ 9 ∷ []) }
     ∷
+    -- its register written: four walls, each with one side of the room, and the byte behind untouched
+    record { before = loads p1 ∷ []; last = writesRegister (replicate 33 7); shows = 32 ∷ (registerP1 ++ 7 ∷ []) }
+    ∷
+    -- a buffer one byte too short for it
+    record { before = loads p1 ∷ []; last = writesRegister (replicate 31 7); shows = 14 ∷ [] }
+    ∷
+    -- the seven walls of F
+    record { before = loads jobF ∷ []; last = writesRegister (replicate 56 0); shows = 56 ∷ registerF }
+    ∷
     -- its plan written: 45 bytes, and the one behind untouched
     record { before = loads p1 ∷ []; last = writesPlan (replicate 46 7); shows = 45 ∷ (planP1 ++ 7 ∷ []) }
     ∷ []
 
 -- EVERY ROW HOLDS
 pub examples : all right table ≡ true
-unfolding rowStar row p1 p5 p6 p7 jobF jobG turnedG oneRoom below p10 floorP1 floorP5 floorF turnedF planP1 sameNumbers numbers plan told right table all any
-    keep pairwise sum upFrom linksTo links changes goesOn endsAt isLast readField restOf writeField opposite frameKind rooms isVertex isRoom starOf names
-    lists kindOf listOf pairsIn test2 test3 entryOk test4 starOk
+unfolding rowStar row p1 p5 p6 p7 jobF jobG turnedG oneRoom below p10 floorP1 floorP5 floorF turnedF planP1 sameNumbers numbers plan told right table all
+    any keep pairwise sum upFrom linksTo links changes goesOn endsAt isLast readField restOf writeField opposite frameKind rooms isVertex isRoom starOf
+    names lists kindOf listOf pairsIn test2 test3 entryOk test4 starOk registerP1 registerF lowSide highSide wideOf longOf sidesIn roomSides built starts
+    endFrom between partition wallsOn wallsOf registerOf register partitionBytes writeRegister
     test5 test6 entries starThen readStars readRest readRooms readFirst readJob passing firstSix starBytes writeStars writeJob entryRules starRules
     rulesFrom raise relax1
     relax meets over passes numbersOf jobNumbers rectOf roomRect planOf inside overlap abut apart area corner nextSide joined sharesJoined follows inOrder

@@ -1,4 +1,4 @@
--- What the listing program prints, as bytes. Assumes nothing.
+-- What the listing programs print, as bytes. Assumes nothing.
 use Prim.Native.Nat.{ℕ, zero, suc, _+_, _/_, _%_}
 use mathlib.Core.Bool.{cond}
 use mathlib.Core.List.{List, [], _∷_, _++_}
@@ -6,6 +6,7 @@ use lib.ListN.{length}
 use lib.Dec.{leb, ltb}
 use Rattle.floor.specs.Quoted.{plain}
 use Rattle.floor.specs.Plans.{Rect, Plan, Answer, refused, held, rectBytes}
+use Rattle.floor.specs.Registers.{Partition, register, partitionBytes}
 use Rattle.floor.specs.Calls.{load}
 
 -- the digits of n, k of them at most, and then some text
@@ -52,3 +53,17 @@ answerText (held j p) = planText p
 -- WHAT THE LISTING PROGRAM PRINTS for some input
 unfoldable pub listing : List ℕ → List ℕ
 listing bs = cond (leb (length bs) 8192) (answerText (load bs)) tooLong
+
+-- a line for each wall of a register: direction, number, beginning, end, sides
+unfoldable pub wallLines : List Partition → List ℕ
+wallLines [] = []
+wallLines (w ∷ ws) = line (partitionBytes w) ++ wallLines ws
+
+-- what a load answers, for the joiner: the walls of the plan, or the number of the refusal
+unfoldable pub wallsText : Answer → List ℕ
+wallsText (refused k) = answerText (refused k)
+wallsText (held j p) = wallLines (register p)
+
+-- WHAT THE JOINER'S PROGRAM PRINTS for some input
+unfoldable pub wallsListing : List ℕ → List ℕ
+wallsListing bs = cond (leb (length bs) 8192) (wallsText (load bs)) tooLong

@@ -6,7 +6,7 @@ use lib.Dec.{leb}
 use Rattle.floor.specs.Jobs.{rawStar}
 use Rattle.floor.specs.Plans.{Touch, clear, wall}
 use Rattle.floor.specs.Calls.{empty, Board, Call, loads, turns, touches, writesJob, writesPlan, lent, Reply, refusal, done, spans, touch, wrote, Step}
-use Rattle.floor.specs.Calls.{refuse, writes, step}
+use Rattle.floor.specs.Calls.{refuse, writes, step, writesRegister}
 pub mod Codes
 
 -- a call made behind one with this reply: none is made behind a refused one, and its number stands
@@ -32,6 +32,10 @@ turnedOfJob bs u v buf = then (then (step empty (loads bs)) (turns u v)) (writes
 -- HOW TWO VERTICES OF A JOB TOUCH
 unfoldable pub touchOfJob : List ℕ → ℕ → ℕ → Step
 touchOfJob bs u v = then (step empty (loads bs)) (touches u v)
+
+-- THE WALLS OF A JOB'S PLAN, written to a lent buffer
+unfoldable pub wallsOfJob : List ℕ → List ℕ → Step
+wallsOfJob bs buf = then (step empty (loads bs)) (writesRegister buf)
 
 -- THE STAR OF A ROOM in raw job bytes, written to a lent buffer; no bytes where there is no such room
 unfoldable pub starOfJob : List ℕ → ℕ → List ℕ → Step

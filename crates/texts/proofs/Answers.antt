@@ -1,25 +1,30 @@
 -- Whole answers as text, as the code comes by them. Assumes nothing.
-use Prim.Native.Nat.{ℕ, _+_, _≤_, _<_}
+use Prim.Native.Nat.{ℕ, _+_, _*_, _≤_, _<_}
 use mathlib.Core.Path.{_≡_, sym, ap, _∙_}
-use mathlib.Core.Bool.{true, false}
+use mathlib.Core.Bool.{true, false, cond}
 use mathlib.Core.List.{List, [], _∷_, _++_}
 use native.Mathlib.Omega.{arith}
 use borrow.Author.Tests.{le-leb, lt-leb}
 use lib.Dec.{leb}
 use lib.ListN.{length}
 use lib.Seq.{sets}
-use Rattle.floor.specs.Plans.{refused, held}
+use Rattle.floor.specs.Plans.{Answer, refused, held}
+use Rattle.floor.specs.Registers.{Partition, register}
 use Rattle.floor.specs.Calls.{load}
 use Rattle.floor.specs.Quoted.{plain}
-use Rattle.floor.specs.Texts.{line, refusedWord, tooLong, planText, answerText, listing}
+use Rattle.floor.specs.Texts.{line, refusedWord, tooLong, planText, answerText, listing, wallLines, wallsText, wallsListing}
 use Rattle.stars.specs.Held.{jobOf}
 use Rattle.drawing.specs.declared.Answer.the-variants.{Drawn, Refused}
 use Rattle.drawing.specs.declared.Plan.{Plan as HeldPlan}
 use Rattle.drawing.specs.Rects.{planFrom, planIn}
 use Rattle.drawing.specs.Drawn.{said}
 use Rattle.drawing.proofs.Corollaries.{plan-held}
+use Rattle.registers.specs.declared.Register.{Register}
+use Rattle.registers.specs.Kept.{wallsIn, registerIn}
+use Rattle.registers.proofs.Corollaries.{walls-held}
 use Rattle.board.specs.declared.Planned.{Planned}
 use Rattle.board.specs.Boards.{Plans}
+use Rattle.board.proofs.Corollaries.{planned-register, planned-few}
 use Rattle.letters.specs.Puts.{Puts}
 use Rattle.letters.proofs.Rows.{front-put}
 use Rattle.texts.proofs.Rows.{one-short}
@@ -37,35 +42,78 @@ module _ (o x : List ℕ) (r : ℕ) (l : length o ≡ 8192) where
   unfolding tooLong plain
   too-long-front p = front-put o tooLong x r p l (omega arith)
 
--- what is printed for some input
-module _ (bs : List ℕ) where
+-- a text at the front of a page, and how many bytes it takes
+abbrev Fronts : List ℕ → List ℕ → List ℕ → ℕ → Type 0
+Fronts o t x r = (r ≡ length t) × (x ≡ sets o 0 t) × (r ≤ 8192)
+
+-- the listing and the joiner's list go by what they print of an answer
+module _ (bs : List ℕ) (text : Answer → List ℕ) where
+  -- what is printed for some input
+  abbrev printed : List ℕ
+  printed = cond (leb (length bs) 8192) (text (load bs)) tooLong
+
   -- over 8,192 bytes: that it is too long
-  pub long-text : 8192 < length bs → listing bs ≡ tooLong
-  unfolding listing
-  long-text h = let z : leb (length bs) 8192 ≡ false = lt-leb (length bs) 8192 h in rw z
+  long : 8192 < length bs → printed ≡ tooLong
+  long h = let z : leb (length bs) 8192 ≡ false = lt-leb (length bs) 8192 h in rw z
 
   module _ (l : length bs ≤ 8192) (q : Planned) (p : Plans q (load bs)) where
-    -- any other: the text of what loading it answers
-    short-text : listing bs ≡ answerText (load bs)
-    unfolding listing
-    short-text = let z : leb (length bs) 8192 ≡ true = le-leb (length bs) 8192 l in rw z
+    -- a job that is drawn: the text of its job and plan
+    drawn : q .answer ≡ Drawn → printed ≡ text (held (jobOf (q .board .stars)) (planIn (q .board .plan)))
+    unfolding said
+    drawn d =
+        let z : leb (length bs) 8192 ≡ true = le-leb (length bs) 8192 l in
+        let h : load bs ≡ held (jobOf (q .board .stars)) (planIn (q .board .plan)) = sym (rw d at (p .says)) in
+        rw (z, h)
 
+    -- a job that is refused: the text of the refusal
+    undrawn : (k : ℕ) → q .answer ≡ Refused k → printed ≡ text (refused k)
+    unfolding said
+    undrawn k d =
+        let z : leb (length bs) 8192 ≡ true = le-leb (length bs) 8192 l in
+        let h : load bs ≡ refused k = sym (rw d at (p .says)) in
+        rw (z, h)
+
+-- both of them
+module _ (bs : List ℕ) where
+  -- over 8,192 bytes the listing says that it is too long
+  pub long-text : 8192 < length bs → listing bs ≡ tooLong
+  unfolding listing
+  long-text = long bs answerText
+
+  -- and so does the joiner's list
+  pub long-walls : 8192 < length bs → wallsListing bs ≡ tooLong
+  unfolding wallsListing
+  long-walls = long bs wallsText
+
+  module _ (l : length bs ≤ 8192) (q : Planned) (p : Plans q (load bs)) where
     -- the held plan, by its numbers
     abbrev plan : HeldPlan
     plan = q .board .plan
 
     -- a job that is drawn: the text of its plan
     pub plan-text : q .answer ≡ Drawn → listing bs ≡ planText (planFrom (plan .width) (plan .height) (plan .rooms + 4) (plan .rects))
-    unfolding said answerText
-    plan-text d =
-        let h : load bs ≡ held (jobOf (q .board .stars)) (planIn plan) = sym (rw d at (p .says)) in
-        short-text ∙ ap answerText h ∙ ap planText (sym (plan-held plan))
+    unfolding listing answerText
+    plan-text d = drawn bs answerText l q p d ∙ ap planText (sym (plan-held plan))
+
+    -- the walls that are kept, by their numbers
+    abbrev walls : List Partition
+    walls = wallsIn (q .board .register .uprights) (q .board .register .many) 0 (q .board .register .rows)
+
+    -- and for the joiner, at the front of the page: a line for each wall that is kept
+    pub walls-text : (o x : List ℕ) (r : ℕ) → length o ≡ 8192 → Puts o 0 (wallLines walls) x r × (length (wallLines walls) ≤ 30 * q .board .register .many)
+        → q .answer ≡ Drawn → Fronts o (wallsListing bs) x r
+    unfolding wallsListing wallsText
+    walls-text o x r e (puts, short) d =
+        let t : wallLines walls ≡ wallsListing bs
+        = ap (λ (ws : List Partition). wallLines ws) (walls-held (q .board .register) ∙ planned-register bs q p d) ∙ sym (drawn bs wallsText l q p d) in
+        rw t at (front-put o (wallLines walls) x r puts e (omega (arith, short, planned-few bs q p d)))
 
     -- a job that is refused: the text of the refusal, at the front of the page
-    pub refusal-text : (o x : List ℕ) (k r : ℕ)
-        → (r ≡ length (answerText (refused k))) × (x ≡ sets o 0 (answerText (refused k))) × (r ≤ 8192)
-        → q .answer ≡ Refused k → (r ≡ length (listing bs)) × (x ≡ sets o 0 (listing bs)) × (r ≤ 8192)
-    unfolding said
-    refusal-text o x k r e d =
-        let h : load bs ≡ refused k = sym (rw d at (p .says)) in
-        rw (short-text ∙ ap answerText h) e
+    pub refusal-text : (o x : List ℕ) (k r : ℕ) → Fronts o (answerText (refused k)) x r → q .answer ≡ Refused k → Fronts o (listing bs) x r
+    unfolding listing
+    refusal-text o x k r e d = rw (undrawn bs answerText l q p k d) e
+
+    -- for the joiner too
+    pub refusal-walls : (o x : List ℕ) (k r : ℕ) → Fronts o (answerText (refused k)) x r → q .answer ≡ Refused k → Fronts o (wallsListing bs) x r
+    unfolding wallsListing wallsText
+    refusal-walls o x k r e d = rw (undrawn bs wallsText l q p k d) e

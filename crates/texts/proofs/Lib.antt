@@ -3,3 +3,4 @@ mod Answers
 mod Plans
 mod Fitting
 pub mod Corollaries
+mod Registers

@@ -18,7 +18,7 @@ pub fn put_two(out: &mut [u8], at: usize, a: usize, b: usize) -> usize
     letters::line::put_one(out, next, b)
 }
 
-// A line of five numbers: a vertex and the ends of its rectangle.
+// A line of five numbers: a vertex and the ends of its rectangle, or the numbers of a wall.
 pub fn put_five(
     out: &mut [u8],
     at: usize,

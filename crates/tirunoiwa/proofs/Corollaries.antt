@@ -9,10 +9,11 @@ use borrow.Author.Tests.{leb-true}
 use lib.ListN.{length}
 use Rattle.floor.specs.Jobs.{writeJob, rawStar}
 use Rattle.floor.specs.Plans.{Touch, clear, wall, writePlan}
-use Rattle.floor.specs.Calls.{Board, empty, holding, Call, loads, turns, touches, writesJob, writesPlan, Reply, refusal, done, spans, touch, wrote}
+use Rattle.floor.specs.Registers.{register, writeRegister}
+use Rattle.floor.specs.Calls.{Board, empty, holding, Call, loads, turns, touches, writesJob, writesPlan, writesRegister, Reply, refusal, done, spans, touch, wrote}
 use Rattle.floor.specs.Calls.{Step, lent, refuse, asks, writes, touching, step}
 use Rattle.floor.specs.Calls.Effects.{refused-leaves}
-use Rattle.floor.specs.Tracker.{behind, then, planOfJob, turnedOfJob, touchOfJob, starOfJob, touchCode, code}
+use Rattle.floor.specs.Tracker.{behind, then, planOfJob, wallsOfJob, turnedOfJob, touchOfJob, starOfJob, touchCode, code}
 use Rattle.floor.specs.Tracker.Codes.{Fair, touch-code, touching-fair}
 use Rattle.tirunoiwa.proofs.Numbers.{same-refusal, Numbered, step-numbered, writes-told}
 use Rattle.tirunoiwa.proofs.Calling.{then-any, then-numbered}
@@ -31,6 +32,10 @@ module _ (bs buf : List ℕ) (r t : ℕ) (x y : List ℕ) where
   -- THE PROMISE OF `tirunoiwa_plan` ALLOWS ONE ANSWER AND ONE BUFFER
   pub one-plan : Promised (planOfJob bs buf) r x → Promised (planOfJob bs buf) t y → (r ≡ t) × (x ≡ y)
   one-plan = one (planOfJob bs buf) r t x y
+
+  -- THE PROMISE OF `tirunoiwa_walls` ALLOWS ONE ANSWER AND ONE BUFFER
+  pub one-walls : Promised (wallsOfJob bs buf) r x → Promised (wallsOfJob bs buf) t y → (r ≡ t) × (x ≡ y)
+  one-walls = one (wallsOfJob bs buf) r t x y
 
   -- THE PROMISE OF `tirunoiwa_turned` ALLOWS ONE ANSWER AND ONE BUFFER
   pub one-turned : (u v : ℕ) → Promised (turnedOfJob bs u v buf) r x → Promised (turnedOfJob bs u v buf) t y → (r ≡ t) × (x ≡ y)
@@ -153,6 +158,10 @@ unfolding writes refuse
 writes-lengths b true bs buf = tt
 writes-lengths b false bs buf = tt
 
+-- a writing behind a step is read as what it is
+written-tells : (s : Step) (c : Call) → Numbered (s .reply) → ((b : Board) → Lengths (step b c .reply)) → TellsLength (code (then s c .reply)) (then s c .reply)
+written-tells s c n f = tells-length _ (then-numbered s c n) (then-any s c Lengths f (λ k e. tt))
+
 module _ (bs : List ℕ) where
   -- where the load is refused, its number is one of 1 to 14
   loaded : Numbered (step empty (loads bs) .reply)
@@ -162,19 +171,26 @@ module _ (bs : List ℕ) where
     -- THE ANSWER OF `tirunoiwa_plan`, READ
     pub plan-tells : TellsLength (code (planOfJob bs buf .reply)) (planOfJob bs buf .reply)
     unfolding planOfJob
-    plan-tells = tells-length _ (then-numbered (step empty (loads bs)) (writesPlan buf) loaded)
-        (then-any (step empty (loads bs)) (writesPlan buf) Lengths lengths (λ k e. tt))
+    plan-tells = written-tells (step empty (loads bs)) (writesPlan buf) loaded lengths
       where
         lengths : (b : Board) → Lengths (step b (writesPlan buf) .reply)
         lengths empty = unfold step refuse in tt
         lengths (holding j p) = unfold step in writes-lengths (holding j p) _ (writePlan p) buf
 
+    -- THE ANSWER OF `tirunoiwa_walls`, READ
+    pub walls-tells : TellsLength (code (wallsOfJob bs buf .reply)) (wallsOfJob bs buf .reply)
+    unfolding wallsOfJob
+    walls-tells = written-tells (step empty (loads bs)) (writesRegister buf) loaded lengths
+      where
+        lengths : (b : Board) → Lengths (step b (writesRegister buf) .reply)
+        lengths empty = unfold step refuse in tt
+        lengths (holding j p) = unfold step in writes-lengths (holding j p) _ (writeRegister (register p)) buf
+
     -- THE ANSWER OF `tirunoiwa_turned`, READ
     pub turned-tells : (u v : ℕ) → TellsLength (code (turnedOfJob bs u v buf .reply)) (turnedOfJob bs u v buf .reply)
     unfolding turnedOfJob
     turned-tells u v =
-        tells-length _ (then-numbered (then (step empty (loads bs)) (turns u v)) (writesJob buf) (then-numbered (step empty (loads bs)) (turns u v) loaded))
-        (then-any (then (step empty (loads bs)) (turns u v)) (writesJob buf) Lengths lengths (λ k e. tt))
+        written-tells (then (step empty (loads bs)) (turns u v)) (writesJob buf) (then-numbered (step empty (loads bs)) (turns u v) loaded) lengths
       where
         lengths : (b : Board) → Lengths (step b (writesJob buf) .reply)
         lengths empty = unfold step refuse in tt
@@ -215,6 +231,11 @@ module _ (bs buf : List ℕ) (k : ℕ) where
   pub plan-leaves : planOfJob bs buf .reply ≡ refusal k → planOfJob bs buf .buffer ≡ buf
   unfolding planOfJob then lent
   plan-leaves e = behind-leaves _ _ (writesPlan buf) k e
+
+  -- walls that are refused leave the buffer as it was
+  pub walls-leaves : wallsOfJob bs buf .reply ≡ refusal k → wallsOfJob bs buf .buffer ≡ buf
+  unfolding wallsOfJob then lent
+  walls-leaves e = behind-leaves _ _ (writesRegister buf) k e
 
   -- a turned job that is refused leaves the buffer as it was
   pub turned-leaves : (u v : ℕ) → turnedOfJob bs u v buf .reply ≡ refusal k → turnedOfJob bs u v buf .buffer ≡ buf

@@ -1,4 +1,5 @@
--- Buffers that always suffice: no plan takes more than 517 bytes, no turned job more than 904, no star more than its job. Assumes nothing.
+-- Buffers that always suffice: no plan takes more than 517 bytes, its walls no more than 504, no turned job more than 904, no star more than its job.
+-- Assumes nothing.
 use Prim.Native.Nat.{ℕ, _+_, _≤_}
 use mathlib.Core.Path.{_≡_, refl, sym, ap, _∙_}
 use mathlib.Core.Bool.{Bool, true, false}
@@ -12,13 +13,15 @@ use Rattle.floor.specs.Jobs.{Job, isRoom, Reading, fails, reads, readJob, write
 use Rattle.floor.specs.Jobs.Facts.{is-room, room-is}
 use Rattle.floor.specs.Jobs.Raw.{Stretch, raw-star, raw-fails, raw-no-room}
 use Rattle.floor.specs.Plans.{Plan, Answer, refused, held, writePlan}
+use Rattle.floor.specs.Registers.{register, writeRegister}
 use Rattle.floor.specs.Turns.{turn}
-use Rattle.floor.specs.Calls.{load, Board, empty, holding, turns, writesJob, writesPlan, refusal, wrote, refuse, after, writes, step, Answers, ofLoad, ofTurn}
+use Rattle.floor.specs.Calls.{load, Board, empty, holding, Call, turns, writesJob, writesPlan, writesRegister, refusal, wrote, refuse, after, writes, step, Answers, ofLoad, ofTurn}
 use Rattle.floor.specs.Calls.Sound.{Sound, load-held, turn-held}
 use Rattle.floor.specs.Calls.Bytes.{job-length-most, plan-length-most}
+use Rattle.floor.specs.Calls.Registered.{register-length-most}
 use Rattle.floor.specs.Calls.Exact.{load-answers, turn-answers}
-use Rattle.floor.specs.Tracker.{behind, then, planOfJob, turnedOfJob, starOfJob}
-use Rattle.tirunoiwa.proofs.Numbers.{same-refusal, among}
+use Rattle.floor.specs.Tracker.{behind, then, planOfJob, wallsOfJob, turnedOfJob, starOfJob}
+use Rattle.tirunoiwa.proofs.Numbers.{same-refusal, upTo, among}
 
 -- what fits is written
 fits-written : (b : Board) (bs buf : List ℕ) (k : ℕ) → length bs ≤ length buf → writes b (leb (length bs) (length buf)) bs buf .reply ≡ refusal k → ⊥
@@ -31,18 +34,11 @@ fits-written b bs buf k h e =
     no-refusal e = let z : _≡_ {A = ℕ} 0 1 = cc in omega arith
 
 -- behind a load or a turn, 14 is given by the writing alone
-plan-behind : (x : Answer) (buf : List ℕ) → Answers ofLoad x → ((j : Job) (p : Plan) → x ≡ held j p → length (writePlan p) ≤ length buf)
-    → then (after empty x) (writesPlan buf) .reply ≡ refusal 14 → ⊥
-unfolding then behind after refuse step
-plan-behind (refused k) buf n s e = omega (arith, among 13 ofLoad k (unfold all in refl) n .1, same-refusal e)
-plan-behind (held j p) buf n s e = fits-written (holding j p) (writePlan p) buf 14 (s j p refl) e
-
--- behind a turn, the writing of a job that fits the buffer is not refused with 14
-job-behind : (b : Board) (x : Answer) (buf : List ℕ) → Answers ofTurn x → ((j : Job) (p : Plan) → x ≡ held j p → length (writeJob j) ≤ length buf)
-    → then (after b x) (writesJob buf) .reply ≡ refusal 14 → ⊥
-unfolding then behind after refuse step
-job-behind b (refused k) buf n s e = omega (arith, among 13 ofTurn k (unfold all in refl) n .1, same-refusal e)
-job-behind b (held j p) buf n s e = fits-written (holding j p) (writeJob j) buf 14 (s j p refl) e
+written-behind : (b : Board) (x : Answer) (ks : List ℕ) (c : Call) → all (upTo 13) ks ≡ true → Answers ks x
+    → ((j : Job) (p : Plan) → x ≡ held j p → step (holding j p) c .reply ≡ refusal 14 → ⊥) → then (after b x) c .reply ≡ refusal 14 → ⊥
+unfolding then behind after refuse
+written-behind b (refused k) ks c a n s e = omega (arith, among 13 ks k a n .1, same-refusal e)
+written-behind b (held j p) ks c a n s e = s j p refl e
 
 -- behind a load and a turn, the writing of the job to 904 bytes is not refused with 14
 turned-behind : (x : Answer) (u v : ℕ) (buf : List ℕ) → Answers ofLoad x → ((j : Job) (p : Plan) → x ≡ held j p → Sound j p) → 904 ≤ length buf
@@ -50,13 +46,23 @@ turned-behind : (x : Answer) (u v : ℕ) (buf : List ℕ) → Answers ofLoad x �
 unfolding then behind after refuse step
 turned-behind (refused k) u v buf n s h e = omega (arith, among 13 ofLoad k (unfold all in refl) n .1, same-refusal e)
 turned-behind (held j p) u v buf n s h e =
-    job-behind (holding j p) (turn j u v) buf (turn-answers j u v) (λ i q f. omega (arith, job-length-most i q (turn-held j p u v i q (s j p refl) f))) e
+    written-behind (holding j p) (turn j u v) ofTurn (writesJob buf) (unfold all in refl) (turn-answers j u v)
+    (λ i q f. fits-written (holding i q) (writeJob i) buf 14 (omega (arith, h, job-length-most i q (turn-held j p u v i q (s j p refl) f)))) e
 
 module _ (bs buf : List ℕ) where
   -- 517 BYTES SUFFICE for a plan
   pub plan-enough : 517 ≤ length buf → planOfJob bs buf .reply ≡ refusal 14 → ⊥
   unfolding planOfJob step
-  plan-enough h e = plan-behind (load bs) buf (load-answers bs) (λ j p f. omega (arith, plan-length-most j p (load-held bs j p f .1))) e
+  plan-enough h e =
+      written-behind empty (load bs) ofLoad (writesPlan buf) (unfold all in refl) (load-answers bs)
+      (λ j p f. fits-written (holding j p) (writePlan p) buf 14 (omega (arith, h, plan-length-most j p (load-held bs j p f .1)))) e
+
+  -- 504 BYTES SUFFICE for the walls
+  pub walls-enough : 504 ≤ length buf → wallsOfJob bs buf .reply ≡ refusal 14 → ⊥
+  unfolding wallsOfJob step
+  walls-enough h e =
+      written-behind empty (load bs) ofLoad (writesRegister buf) (unfold all in refl) (load-answers bs)
+      (λ j p f. fits-written (holding j p) (writeRegister (register p)) buf 14 (omega (arith, h, register-length-most j p (load-held bs j p f .1)))) e
 
   -- 904 BYTES SUFFICE for a turned job
   pub turned-enough : (u v : ℕ) → 904 ≤ length buf → turnedOfJob bs u v buf .reply ≡ refusal 14 → ⊥

@@ -11,9 +11,10 @@ use Rattle.floor.specs.Lists.{all}
 use Rattle.floor.specs.Lists.Laws.{and-parts, any-mem, all-mem}
 use Rattle.floor.specs.Jobs.{writeJob}
 use Rattle.floor.specs.Plans.{Answer, refused, held, writePlan}
+use Rattle.floor.specs.Registers.{register, writeRegister}
 use Rattle.floor.specs.Turns.{turn}
-use Rattle.floor.specs.Calls.{load, Board, empty, holding, Call, loads, turns, rectangle, touches, writesJob, writesPlan, Reply, refusal, done, spans, touch, wrote, Answers}
-use Rattle.floor.specs.Calls.{OneOf, ofLoad, ofTurn, lent, refuse, after, asks, writes, step}
+use Rattle.floor.specs.Calls.{load, Board, empty, holding, Call, loads, turns, rectangle, touches, writesJob, writesPlan, writesRegister, Reply, refusal, done, spans, touch}
+use Rattle.floor.specs.Calls.{wrote, Answers, OneOf, ofLoad, ofTurn, lent, refuse, after, asks, writes, step}
 use Rattle.floor.specs.Calls.Exact.{load-answers, turn-answers}
 
 -- equal refusals have one number
@@ -79,11 +80,14 @@ step-told empty (rectangle v) = ((omega arith, omega arith), tt)
 step-told empty (touches u v) = ((omega arith, omega arith), tt)
 step-told empty (writesJob buf) = ((omega arith, omega arith), tt)
 step-told empty (writesPlan buf) = ((omega arith, omega arith), tt)
+step-told empty (writesRegister buf) = ((omega arith, omega arith), tt)
 step-told (holding j p) (turns u v) = after-told (holding j p) (turn j u v) ofTurn (unfold all in refl) (turn-answers j u v)
 step-told (holding j p) (rectangle v) = asks-told (holding j p) _ _ (tt, tt)
 step-told (holding j p) (touches u v) = asks-told (holding j p) _ _ (tt, tt)
 step-told (holding j p) (writesJob buf) = writes-told (holding j p) _ (writeJob j) buf (leb-true (length (writeJob j)) (length buf))
 step-told (holding j p) (writesPlan buf) = writes-told (holding j p) _ (writePlan p) buf (leb-true (length (writePlan p)) (length buf))
+step-told (holding j p) (writesRegister buf) =
+    writes-told (holding j p) _ (writeRegister (register p)) buf (leb-true (length (writeRegister (register p))) (length buf))
 
 -- a refusal of any call is one of 1 to 14
 pub step-numbered : (b : Board) (c : Call) → Numbered (step b c .reply)

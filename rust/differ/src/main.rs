@@ -1,8 +1,10 @@
-//! Puts many jobs and calls to the reference and to the built programs `calls`, `listing`, `doors` and `draw`, and compares every line.
+//! Puts many jobs and calls to the reference and to the built programs `calls`, `listing`, `doors`, `walls_list` and `draw`, and compares every
+//! line.
 
 mod alone;
 mod circle;
 mod damage;
+mod marks;
 mod pairs;
 mod picture;
 mod planner;
@@ -27,7 +29,7 @@ use streams::{make_stream, Budget};
 use table::Table;
 
 const USAGE: &str = "differ [--short | --long] [--seed N] [--jobs N] [--calls N] [--pairs N] \
-    [--listings N] [--doors N] [--pictures N] [--runner PATH] [--slip NAME] [--reference]";
+    [--listings N] [--doors N] [--walls N] [--pictures N] [--runner PATH] [--slip NAME] [--reference]";
 
 struct Options {
     seed: u64,
@@ -36,6 +38,7 @@ struct Options {
     pairs: usize,
     listings: usize,
     doors: usize,
+    walls: usize,
     pictures: usize,
     under_test: UnderTest,
 }
@@ -47,13 +50,14 @@ fn main() -> ExitCode {
     };
     let begun = Instant::now();
     println!(
-        "seed {}, {} jobs, {} other calls, {} pairs of starts, {} listings, {} lists of doors, {} pictures",
+        "seed {}, {} jobs, {} other calls, {} pairs of starts, {} listings, {} lists of doors, {} of walls, {} pictures",
         options.seed,
         options.jobs,
         options.calls,
         options.pairs,
         options.listings,
         options.doors,
+        options.walls,
         options.pictures
     );
     let mut table = Table::default();
@@ -61,6 +65,7 @@ fn main() -> ExitCode {
         && compare_pairs(&options, &mut table)
         && compare_told(&options, OneJob::Listing, options.listings, &mut table)
         && compare_told(&options, OneJob::Doors, options.doors, &mut table)
+        && compare_told(&options, OneJob::Walls, options.walls, &mut table)
         && compare_pictures(&options, &mut table);
     table.print();
     println!(
@@ -85,6 +90,7 @@ fn read_options() -> Option<Options> {
         pairs: 1_000,
         listings: 300,
         doors: 300,
+        walls: 300,
         pictures: 200,
         under_test: UnderTest::Runner("../bin/run".to_string()),
     };
@@ -96,7 +102,7 @@ fn read_options() -> Option<Options> {
                 (options.jobs, options.calls) = (400_000, 600_000);
                 options.pairs = 10_000;
                 (options.listings, options.doors) = (3_000, 3_000);
-                options.pictures = 2_000;
+                (options.walls, options.pictures) = (3_000, 2_000);
             }
             "--seed" => options.seed = words.next()?.parse().ok()?,
             "--jobs" => options.jobs = words.next()?.parse().ok()?,
@@ -104,6 +110,7 @@ fn read_options() -> Option<Options> {
             "--pairs" => options.pairs = words.next()?.parse().ok()?,
             "--listings" => options.listings = words.next()?.parse().ok()?,
             "--doors" => options.doors = words.next()?.parse().ok()?,
+            "--walls" => options.walls = words.next()?.parse().ok()?,
             "--pictures" => options.pictures = words.next()?.parse().ok()?,
             "--runner" => options.under_test = UnderTest::Runner(words.next()?),
             "--reference" => options.under_test = UnderTest::Reference,

@@ -1,5 +1,9 @@
 //! The listing that a picture shows: every rectangle read back from its ground, its outline, its title and its label, which have to agree; and
-//! what else a picture owes: everything inside it, neighbours in different tints, every line numbered at both ends, and the job it shows.
+//! what else a picture owes: everything inside it, neighbours in different tints, every wall marked, every line numbered at both ends, and the
+//! job it shows.
+
+use crate::marks::check_marks;
+use reference::drawing::{Plan, Rectangle};
 
 const TOP: usize = 68;
 const MARGIN: usize = 40;
@@ -14,10 +18,10 @@ const SIDES: [(&str, &str); 4] = [
 ];
 
 /// Where a sheet stands in its picture.
-struct Sheet {
+pub struct Sheet {
     width: usize,
     height: usize,
-    cell: usize,
+    pub cell: usize,
     left: usize,
 }
 
@@ -40,11 +44,11 @@ impl Sheet {
         }
     }
 
-    fn across(&self, x: usize) -> usize {
+    pub fn across(&self, x: usize) -> usize {
         self.left + self.cell * x
     }
 
-    fn down(&self, y: usize) -> usize {
+    pub fn down(&self, y: usize) -> usize {
         TOP + self.cell * (self.height - y)
     }
 
@@ -56,11 +60,11 @@ impl Sheet {
 
 /// A text on the picture: where its middle stands, how large it is, and what it says.
 #[derive(Clone, Debug, PartialEq, Eq, PartialOrd, Ord)]
-struct Words {
-    x: usize,
-    y: usize,
-    size: usize,
-    says: String,
+pub struct Words {
+    pub x: usize,
+    pub y: usize,
+    pub size: usize,
+    pub says: String,
 }
 
 /// A name in front of a job, as the program that draws takes it.
@@ -94,9 +98,10 @@ pub fn listing_shown(picture: &str, name: &[u8], job: &[u8]) -> Result<String, S
     }
     let mut text = format!("sheet {width} {height}\n");
     let mut painted = Vec::new();
+    let mut labels = Vec::new();
     for (vertex, (ground, group)) in grounds.iter().zip(&groups).enumerate() {
         let lines = rectangle(ground, &sheet).ok_or(format!("the ground of {vertex}"))?;
-        check_group(group, vertex, &sheet, lines)?;
+        labels.push(check_group(group, vertex, &sheet, lines)?);
         let tint = between(ground, " fill=\"", "\"").ok_or(format!("the tint of {vertex}"))?;
         if between(group, " fill=\"", "\"") != Some(tint) {
             return Err(format!("the plate of {vertex}"));
@@ -106,7 +111,18 @@ pub fn listing_shown(picture: &str, name: &[u8], job: &[u8]) -> Result<String, S
         text.push_str(&format!("{vertex} {x1} {y1} {x2} {y2}\n"));
     }
     check_tints(&painted)?;
+    check_marks(picture, &sheet, &plan_of(&sheet, &painted), &labels)?;
     Ok(text)
+}
+
+/// The plan that the rectangles make.
+fn plan_of(sheet: &Sheet, painted: &[([usize; 4], &str)]) -> Plan {
+    let rectangle = |&([x1, y1, x2, y2], _): &([usize; 4], &str)| Rectangle { x1, y1, x2, y2 };
+    Plan {
+        width: sheet.width,
+        height: sheet.height,
+        rectangles: painted.iter().map(rectangle).collect(),
+    }
 }
 
 fn lines_starting<'a>(picture: &'a str, start: &str) -> Vec<&'a str> {
@@ -117,7 +133,7 @@ fn lines_starting<'a>(picture: &'a str, start: &str) -> Vec<&'a str> {
 }
 
 /// What stands between two words.
-fn between<'a>(text: &'a str, before: &str, behind: &str) -> Option<&'a str> {
+pub fn between<'a>(text: &'a str, before: &str, behind: &str) -> Option<&'a str> {
     let from = text.find(before)? + before.len();
     let to = text[from..].find(behind)?;
     Some(&text[from..from + to])
@@ -155,12 +171,12 @@ fn check_size(picture: &str, sheet: &Sheet) -> Result<(), String> {
     Ok(())
 }
 
-fn attribute(element: &str, name: &str) -> Option<usize> {
+pub fn attribute(element: &str, name: &str) -> Option<usize> {
     between(element, &format!(" {name}=\""), "\"")?.parse().ok()
 }
 
 /// The elements of a name, each from behind its name on.
-fn elements<'a>(picture: &'a str, name: &'a str) -> impl Iterator<Item = &'a str> {
+pub fn elements<'a>(picture: &'a str, name: &'a str) -> impl Iterator<Item = &'a str> {
     picture.split(name).skip(1)
 }
 
@@ -225,7 +241,7 @@ fn all_words(picture: &str) -> Result<Vec<Words>, String> {
     elements(picture, "<text").map(words_of).collect()
 }
 
-fn words_of(element: &str) -> Result<Words, String> {
+pub fn words_of(element: &str) -> Result<Words, String> {
     let read = || {
         Some(Words {
             x: attribute(element, "x")?,
@@ -237,10 +253,10 @@ fn words_of(element: &str) -> Result<Words, String> {
     read().ok_or(format!("a text: {element:.60}"))
 }
 
-/// The texts beside the rectangles are these and no others: which job it is, how it is read, and each line's number at both its ends.
+/// The texts beside those of rectangles and walls are these and no others: which job it is, how it is read, and each line's number at both its ends.
 fn check_words(picture: &str, sheet: &Sheet, name: &[u8], job: &[u8]) -> Result<(), String> {
     let mut found = Vec::new();
-    for line in picture.lines().filter(|line| !line.starts_with("<g>")) {
+    for line in picture.lines().filter(|line| !line.starts_with("<g")) {
         found.extend(all_words(line)?);
     }
     let mut expected = told(sheet, name, job);
@@ -270,12 +286,12 @@ fn told(sheet: &Sheet, name: &[u8], job: &[u8]) -> Vec<Words> {
             ),
         ),
         (
-            bottom + 34,
+            bottom + 30,
             11,
             "The grey strip, one cell wide, is the frame: sides N, W, S and E.".into(),
         ),
         (
-            bottom + 49,
+            bottom + 43,
             11,
             format!(
                 "Rooms begin at line 1 and end at line {} across and line {} up.",
@@ -284,7 +300,12 @@ fn told(sheet: &Sheet, name: &[u8], job: &[u8]) -> Vec<Words> {
             ),
         ),
         (
-            bottom + 64,
+            bottom + 56,
+            11,
+            "Walls are marked as in the joiner's list: W upright, L level.".into(),
+        ),
+        (
+            bottom + 69,
             11,
             format!(
                 "x runs west to east, y south to north. At full size a cell is {} mm.",
@@ -391,8 +412,13 @@ fn rectangle(element: &str, sheet: &Sheet) -> Option<[usize; 4]> {
     Some([x1, y1, x2, y2])
 }
 
-/// Title, outline and label of a vertex.
-fn check_group(group: &str, vertex: usize, sheet: &Sheet, lines: [usize; 4]) -> Result<(), String> {
+/// Title, outline and label of a vertex; the label is handed back.
+fn check_group(
+    group: &str,
+    vertex: usize,
+    sheet: &Sheet,
+    lines: [usize; 4],
+) -> Result<Words, String> {
     let [x1, y1, x2, y2] = lines;
     let (full, short) = match SIDES.get(vertex) {
         Some((full, short)) => (full.to_string(), short.to_string()),
@@ -422,7 +448,7 @@ fn check_group(group: &str, vertex: usize, sheet: &Sheet, lines: [usize; 4]) -> 
     if label.says != short {
         return Err(format!("the label of {vertex}"));
     }
-    Ok(())
+    Ok(label)
 }
 
 /// The frame is grey and no room is; rooms that share a wall differ in their tints.

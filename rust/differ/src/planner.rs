@@ -3,6 +3,7 @@
 use reference::doors::Door;
 use reference::drawing::{Rectangle, Touch};
 use reference::fields::{Field, Reader};
+use reference::register::Wall;
 use reference::{Board, Refusal};
 
 pub const LOAD: u8 = 32;
@@ -12,6 +13,7 @@ pub const TOUCH: u8 = 35;
 pub const WRITE_JOB: u8 = 36;
 pub const WRITE_PLAN: u8 = 37;
 pub const STAR: u8 = 38;
+pub const WRITE_WALLS: u8 = 39;
 
 pub const LARGEST_BUFFER: usize = 2_048;
 pub const LONGEST_JOB: usize = 8_192;
@@ -24,8 +26,10 @@ pub trait Planner {
     fn rectangle(&self, vertex: usize) -> Result<Rectangle, Refusal>;
     fn touch(&self, one: usize, other: usize) -> Result<Option<Touch>, Refusal>;
     fn doors(&self) -> Result<Vec<Door>, Refusal>;
+    fn walls(&self) -> Result<Vec<Wall>, Refusal>;
     fn write_job(&self, buffer: &mut [u8]) -> Result<usize, Refusal>;
     fn write_plan(&self, buffer: &mut [u8]) -> Result<usize, Refusal>;
+    fn write_walls(&self, buffer: &mut [u8]) -> Result<usize, Refusal>;
     fn star<'a>(&self, bytes: &'a [u8], room: usize) -> &'a [u8];
 }
 
@@ -45,11 +49,17 @@ impl Planner for Board {
     fn doors(&self) -> Result<Vec<Door>, Refusal> {
         Board::doors(self)
     }
+    fn walls(&self) -> Result<Vec<Wall>, Refusal> {
+        Board::walls(self)
+    }
     fn write_job(&self, buffer: &mut [u8]) -> Result<usize, Refusal> {
         Board::write_job(self, buffer)
     }
     fn write_plan(&self, buffer: &mut [u8]) -> Result<usize, Refusal> {
         Board::write_plan(self, buffer)
+    }
+    fn write_walls(&self, buffer: &mut [u8]) -> Result<usize, Refusal> {
+        Board::write_walls(self, buffer)
     }
     fn star<'a>(&self, bytes: &'a [u8], room: usize) -> &'a [u8] {
         reference::star(bytes, room)
@@ -120,7 +130,7 @@ fn answer_call(planner: &mut dyn Planner, field: Field) -> Option<Answer> {
             let [one, other] = numbers(field.value)?;
             touched(planner.touch(one, other))
         }
-        WRITE_JOB | WRITE_PLAN => {
+        WRITE_JOB | WRITE_PLAN | WRITE_WALLS => {
             let [size] = numbers(field.value)?;
             written(planner, tag, size)?
         }
@@ -178,10 +188,10 @@ fn written(planner: &mut dyn Planner, tag: u8, size: usize) -> Option<(Outcome, 
         return None;
     }
     let mut buffer = vec![UNTOUCHED; size];
-    let answer = if tag == WRITE_JOB {
-        planner.write_job(&mut buffer)
-    } else {
-        planner.write_plan(&mut buffer)
+    let answer = match tag {
+        WRITE_JOB => planner.write_job(&mut buffer),
+        WRITE_PLAN => planner.write_plan(&mut buffer),
+        _ => planner.write_walls(&mut buffer),
     };
     Some(refused_or(answer, |length| {
         format!("wrote {length} {}", hex(&buffer))
@@ -193,6 +203,7 @@ fn written(planner: &mut dyn Planner, tag: u8, size: usize) -> Option<(Outcome, 
 pub enum OneJob {
     Listing,
     Doors,
+    Walls,
 }
 
 impl OneJob {
@@ -201,6 +212,7 @@ impl OneJob {
         match self {
             OneJob::Listing => "listing",
             OneJob::Doors => "doors",
+            OneJob::Walls => "walls_list",
         }
     }
 
@@ -222,6 +234,7 @@ impl OneJob {
         match self {
             OneJob::Listing => sheet(answer).1 + "\n" + &rectangle_lines(planner),
             OneJob::Doors => refused_or(planner.doors(), |doors| door_lines(&doors)).1,
+            OneJob::Walls => refused_or(planner.walls(), |walls| wall_lines(&walls)).1,
         }
     }
 }
@@ -242,6 +255,16 @@ fn door_lines(doors: &[Door]) -> String {
         )
     };
     doors.iter().map(line).collect()
+}
+
+fn wall_lines(walls: &[Wall]) -> String {
+    let line = |w: &Wall| {
+        format!(
+            "{} {} {} {} {}\n",
+            w.direction, w.number, w.beginning, w.end, w.sides
+        )
+    };
+    walls.iter().map(line).collect()
 }
 
 pub fn hex(bytes: &[u8]) -> String {

@@ -2,6 +2,7 @@
 
 use reference::drawing::{touch, within_bound, Plan, Touch};
 use reference::job::{Entry, Job};
+use reference::register::{register, Wall, LEVEL, UPRIGHT};
 use reference::{ABOVE, BELOW, EAST, LEFT, NORTH, RIGHT, SOUTH, WEST};
 
 /// What is wrong with a held plan, if anything is.
@@ -25,6 +26,9 @@ pub fn plan_fault(job: &Job, plan: &Plan) -> Option<&'static str> {
         return Some(
             "a shared wall is not as long as the cells that lie along it, or not on that side",
         );
+    }
+    if register(plan) != walls_by_contacts(job, plan) {
+        return Some("the register has other walls than the contacts join");
     }
     if !job
         .rooms()
@@ -141,4 +145,83 @@ fn stands_round(plan: &Plan, room: usize, star: &[Entry]) -> bool {
         }
     });
     on_its_side && in_order
+}
+
+/// The sides of the rooms, and of the frame where it joins walls, each with the mark of its wall: contacts join, and nothing else does.
+struct Marks {
+    /// By vertex, then by kind.
+    of: Vec<[usize; 4]>,
+}
+
+impl Marks {
+    fn joined_by(job: &Job) -> Marks {
+        let apart = (0..job.vertices()).map(|v| std::array::from_fn(|side| 4 * v + side));
+        let mut marks = Marks {
+            of: apart.collect(),
+        };
+        for room in job.rooms() {
+            for entry in job.star_of(room) {
+                let back = reference::opposite(entry.kind);
+                marks.join((room, entry.kind), (entry.neighbour, back));
+            }
+        }
+        marks
+    }
+
+    fn at(&self, (vertex, side): (usize, u8)) -> usize {
+        self.of[vertex][usize::from(side)]
+    }
+
+    fn join(&mut self, one: (usize, u8), other: (usize, u8)) {
+        let (old, new) = (self.at(one), self.at(other));
+        for mark in self.of.iter_mut().flatten().filter(|mark| **mark == old) {
+            *mark = new;
+        }
+    }
+}
+
+/// The walls as the job's contacts join the rooms' sides, in the register's order: n + 3 of them, with 4n sides.
+fn walls_by_contacts(job: &Job, plan: &Plan) -> Vec<Wall> {
+    let marks = Marks::joined_by(job);
+    let mut found: Vec<(usize, Wall)> = Vec::new();
+    for room in job.rooms() {
+        for side in [ABOVE, LEFT, BELOW, RIGHT] {
+            let alone = wall_of_side(plan, room, side);
+            let mark = marks.at((room, side));
+            match found.iter_mut().find(|(other, _)| *other == mark) {
+                Some((_, wall)) => add_side(wall, &alone),
+                None => found.push((mark, alone)),
+            }
+        }
+    }
+    let mut walls: Vec<Wall> = found.into_iter().map(|(_, wall)| wall).collect();
+    walls.sort_unstable();
+    let sides: usize = walls.iter().map(|wall| wall.sides).sum();
+    assert_eq!(walls.len(), job.stars.len() + 3, "walls");
+    assert_eq!(sides, 4 * job.stars.len(), "room sides");
+    walls
+}
+
+/// The wall that one side of a room would be by itself.
+fn wall_of_side(plan: &Plan, room: usize, side: u8) -> Wall {
+    let r = &plan.rectangles[room];
+    let (direction, number, beginning, end) = match side {
+        ABOVE => (LEVEL, r.y2, r.x1, r.x2),
+        LEFT => (UPRIGHT, r.x1, r.y1, r.y2),
+        BELOW => (LEVEL, r.y1, r.x1, r.x2),
+        _ => (UPRIGHT, r.x2, r.y1, r.y2),
+    };
+    Wall {
+        direction,
+        number,
+        beginning,
+        end,
+        sides: 1,
+    }
+}
+
+fn add_side(wall: &mut Wall, side: &Wall) {
+    wall.beginning = wall.beginning.min(side.beginning);
+    wall.end = wall.end.max(side.end);
+    wall.sides += 1;
 }

@@ -6,6 +6,7 @@ use reference::doors::{doors_by, Door};
 use reference::drawing::{draw, faults, in_order, meet_only_at_a_corner, place, touch};
 use reference::drawing::{Faults, Plan, Rectangle, Touch};
 use reference::job::{changes, goes_on, nobody_twice, read_by, star_is_fit, Job, Star};
+use reference::register::{self, register, Wall, UPRIGHT};
 use reference::turning::turned;
 use reference::walls::{number_walls, WallNumbers};
 use reference::{Board, Refusal, ABOVE, BELOW, FIRST_ROOM, LEFT, RIGHT};
@@ -47,6 +48,16 @@ pub enum Slip {
     OneLineTouches,
     /// Frame sides do not touch each other, as no job joins them.
     FrameApart,
+    /// Walls joined because their numbers are equal.
+    JoinedByNumbers,
+    /// A frame side counted as a room side.
+    FrameSideCounted,
+    /// A wall's length in the place of its end.
+    LengthForEnd,
+    /// The register stays as it was before a turn.
+    RegisterKept,
+    /// Level walls come first.
+    LevelFirst,
     /// Numbers cut to one byte.
     OneByteNumbers,
     /// The buffer behind the bytes is cleared.
@@ -77,7 +88,7 @@ pub enum Slip {
     OrderNotClosed,
 }
 
-pub const ALL: [Slip; 33] = [
+pub const ALL: [Slip; 38] = [
     Slip::RoomsOnly,
     Slip::AreaAlone,
     Slip::NoArea,
@@ -97,6 +108,11 @@ pub const ALL: [Slip; 33] = [
     Slip::CornerTouches,
     Slip::OneLineTouches,
     Slip::FrameApart,
+    Slip::JoinedByNumbers,
+    Slip::FrameSideCounted,
+    Slip::LengthForEnd,
+    Slip::RegisterKept,
+    Slip::LevelFirst,
     Slip::OneByteNumbers,
     Slip::ClearsBehind,
     Slip::WantsOneMore,
@@ -132,10 +148,21 @@ pub const OF_TOUCHES: [Slip; 4] = [
     Slip::OneLineTouches,
 ];
 
+/// Those that the joiner's list of one job shows as well.
+#[cfg(test)]
+pub const OF_WALLS: [Slip; 4] = [
+    Slip::JoinedByNumbers,
+    Slip::FrameSideCounted,
+    Slip::LengthForEnd,
+    Slip::LevelFirst,
+];
+
 pub struct SlippedBoard {
     slip: Slip,
     held: Option<(Job, Plan)>,
     loaded: Option<Job>,
+    /// The plan from which the walls are counted.
+    walled: Option<Plan>,
 }
 
 impl SlippedBoard {
@@ -144,6 +171,7 @@ impl SlippedBoard {
             slip,
             held: None,
             loaded: None,
+            walled: None,
         }
     }
 
@@ -225,6 +253,19 @@ impl SlippedBoard {
             Slip::OneLineTouches => right.or_else(|| on_one_line(a, b)),
             _ => right,
         }
+    }
+
+    /// The register of a plan.
+    fn walls_of(&self, plan: &Plan) -> Vec<Wall> {
+        let mut walls = register(plan);
+        match self.slip {
+            Slip::JoinedByNumbers => walls = joined_by_numbers(walls),
+            Slip::FrameSideCounted => walls.iter_mut().for_each(|wall| count_frame(plan, wall)),
+            Slip::LengthForEnd => walls.iter_mut().for_each(|w| w.end -= w.beginning),
+            Slip::LevelFirst => walls.sort_by_key(|wall| std::cmp::Reverse(wall.direction)),
+            _ => {}
+        }
+        walls
     }
 
     fn number(&self, number: usize) -> usize {
@@ -312,6 +353,30 @@ fn on_one_line(a: &Rectangle, b: &Rectangle) -> Option<Touch> {
     Some(Touch { side, length: 0 })
 }
 
+/// One wall for each direction and number.
+fn joined_by_numbers(walls: Vec<Wall>) -> Vec<Wall> {
+    let mut joined: Vec<Wall> = Vec::new();
+    for wall in walls {
+        match joined.last_mut() {
+            Some(last) if (last.direction, last.number) == (wall.direction, wall.number) => {
+                last.end = wall.end;
+                last.sides += wall.sides;
+            }
+            _ => joined.push(wall),
+        }
+    }
+    joined
+}
+
+/// One side more where a frame side lies along the wall.
+fn count_frame(plan: &Plan, wall: &mut Wall) {
+    let last = match wall.direction {
+        UPRIGHT => plan.width - 1,
+        _ => plan.height - 1,
+    };
+    wall.sides += usize::from(wall.number == 1 || wall.number == last);
+}
+
 /// Every entry where it stands, with the kind that the other job gives it.
 fn with_kinds_of(job: &Job, other: &Job) -> Job {
     let mut result = job.clone();
@@ -379,6 +444,7 @@ impl Planner for SlippedBoard {
         let sheet = (plan.width, plan.height);
         if self.held.is_none() || self.slip != Slip::FirstPlanKept {
             self.loaded = Some(job.clone());
+            self.walled = Some(plan.clone());
             self.held = Some((job, plan));
         }
         Ok(sheet)
@@ -396,6 +462,9 @@ impl Planner for SlippedBoard {
         }
         let plan = draw(&job)?;
         let sheet = (plan.width, plan.height);
+        if self.slip != Slip::RegisterKept && self.slip != Slip::TurnKeeps {
+            self.walled = Some(plan.clone());
+        }
         if self.slip != Slip::TurnKeeps {
             self.held = Some((job, plan));
         }
@@ -433,6 +502,16 @@ impl Planner for SlippedBoard {
         let (_, plan) = self.held()?;
         let touch = |u: usize, v: usize| self.touching(&plan.rectangles[u], &plan.rectangles[v]);
         Ok(doors_by(plan, touch))
+    }
+
+    fn walls(&self) -> Result<Vec<Wall>, Refusal> {
+        self.held()?;
+        let plan = self.walled.as_ref().ok_or(Refusal(10))?;
+        Ok(self.walls_of(plan))
+    }
+
+    fn write_walls(&self, buffer: &mut [u8]) -> Result<usize, Refusal> {
+        self.write(register::bytes(&self.walls()?), buffer)
     }
 
     fn write_job(&self, buffer: &mut [u8]) -> Result<usize, Refusal> {

@@ -3,13 +3,13 @@
 use crate::damage::any_job;
 use crate::planner::{
     answer_stream, Outcome, LARGEST_BUFFER, LOAD, RECTANGLE, STAR, TOUCH, TURN, WRITE_JOB,
-    WRITE_PLAN,
+    WRITE_PLAN, WRITE_WALLS,
 };
 use crate::proofread::plan_fault;
 use crate::table::Table;
 use floors::Chance;
 use reference::fields::put_field;
-use reference::{drawing, job, walls, Board, FIRST_ROOM};
+use reference::{drawing, job, register, walls, Board, FIRST_ROOM};
 
 /// A stream in pieces: whole calls, and at the end perhaps one piece that breaks it.
 pub struct Stream {
@@ -84,11 +84,12 @@ impl Maker {
             };
         }
         match chance.below(100) {
-            0..=49 => self.turn(chance),
-            50..=64 => call(RECTANGLE, &two(self.some_vertex(chance))),
-            65..=84 => self.touch(chance),
-            85..=92 => self.writing(chance, WRITE_JOB),
-            _ => self.writing(chance, WRITE_PLAN),
+            0..=44 => self.turn(chance),
+            45..=58 => call(RECTANGLE, &two(self.some_vertex(chance))),
+            59..=77 => self.touch(chance),
+            78..=84 => self.writing(chance, WRITE_JOB),
+            85..=90 => self.writing(chance, WRITE_PLAN),
+            _ => self.writing(chance, WRITE_WALLS),
         }
     }
 
@@ -233,11 +234,7 @@ impl Maker {
 
     /// Buffers that just fit, that just do not, and any others.
     fn writing(&self, chance: &mut Chance, tag: u8) -> Vec<u8> {
-        let length = match (self.board.job(), self.board.plan()) {
-            (Some(job), _) if tag == WRITE_JOB => job.bytes().len(),
-            (_, Some(plan)) => plan.bytes().len(),
-            _ => 100,
-        };
+        let length = self.written_length(tag).unwrap_or(100);
         let size = match chance.below(8) {
             0..=1 => length,
             2 => length - 1,
@@ -247,6 +244,16 @@ impl Maker {
             _ => chance.below(LARGEST_BUFFER + 1),
         };
         call(tag, &two(size))
+    }
+
+    /// How many bytes a writing fills, where a plan is held.
+    fn written_length(&self, tag: u8) -> Option<usize> {
+        let (job, plan) = (self.board.job()?, self.board.plan()?);
+        Some(match tag {
+            WRITE_JOB => job.bytes().len(),
+            WRITE_PLAN => plan.bytes().len(),
+            _ => register::bytes(&register::register(plan)).len(),
+        })
     }
 
     fn star_question(&self, chance: &mut Chance) -> Vec<u8> {
@@ -285,7 +292,7 @@ fn breaking_tail(chance: &mut Chance) -> Vec<u8> {
             cut(chance, call(LOAD, &bytes))
         }
         2 => call(
-            *chance.pick(&[0, 1, 2, 31, 39, 255, 32 + 128]),
+            *chance.pick(&[0, 1, 2, 31, 40, 255, 32 + 128]),
             &four(4, 5)[..chance.below(5)],
         ),
         3 => call(
@@ -293,12 +300,12 @@ fn breaking_tail(chance: &mut Chance) -> Vec<u8> {
             &[0, 4, 0, 5, 0, 6][..*chance.pick(&[0, 1, 2, 3, 5, 6])],
         ),
         4 => call(
-            *chance.pick(&[RECTANGLE, WRITE_JOB, WRITE_PLAN]),
+            *chance.pick(&[RECTANGLE, WRITE_JOB, WRITE_PLAN, WRITE_WALLS]),
             &[0, 4, 0, 5][..*chance.pick(&[0, 1, 3, 4])],
         ),
         5 => call(STAR, &[0, 4][..chance.below(2)]),
         6 => call(
-            *chance.pick(&[WRITE_JOB, WRITE_PLAN]),
+            *chance.pick(&[WRITE_JOB, WRITE_PLAN, WRITE_WALLS]),
             &two(*chance.pick(&[2_049, 2_050, 4_096, 65_535])),
         ),
         _ => (0..chance.between(1, 12)).map(|_| chance.byte()).collect(),

@@ -1,6 +1,7 @@
 //! How often each answer was seen.
 
-use crate::planner::{OneJob, Outcome, LOAD, RECTANGLE, STAR, TOUCH, TURN, WRITE_JOB, WRITE_PLAN};
+use crate::planner::{OneJob, Outcome, LOAD, RECTANGLE, STAR, TOUCH, TURN};
+use crate::planner::{WRITE_JOB, WRITE_PLAN, WRITE_WALLS};
 use reference::drawing::Faults;
 use std::collections::BTreeMap;
 
@@ -20,13 +21,14 @@ pub struct Table {
     pub plans_checked: u64,
 }
 
-const CALLS: [(u8, &str); 7] = [
+const CALLS: [(u8, &str); 8] = [
     (LOAD, "load"),
     (TURN, "turn"),
     (RECTANGLE, "rectangle"),
     (TOUCH, "touch"),
     (WRITE_JOB, "write job"),
     (WRITE_PLAN, "write plan"),
+    (WRITE_WALLS, "walls"),
     (STAR, "star"),
 ];
 

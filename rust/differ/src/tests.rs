@@ -8,7 +8,7 @@ use crate::planner::OneJob;
 use crate::programs::UnderTest;
 use crate::proofread::plan_fault;
 use crate::shrink::{both_texts, Shrinker};
-use crate::slips::{ALL, OF_STARTS, OF_TOUCHES};
+use crate::slips::{Slip, ALL, OF_STARTS, OF_TOUCHES, OF_WALLS};
 use crate::streams::{make_stream, Budget};
 use crate::table::Table;
 use floors::Chance;
@@ -68,13 +68,23 @@ fn told_otherwise(under_test: &UnderTest, program: OneJob) -> bool {
     })
 }
 
-#[test]
-fn a_slip_of_touches_is_found_in_the_doors() {
-    for slip in OF_TOUCHES {
-        let found = told_otherwise(&UnderTest::Slipped(slip), OneJob::Doors);
+/// Every one of these slips shows in what a program of one job prints.
+fn slips_show(slips: &[Slip], program: OneJob) {
+    for &slip in slips {
+        let found = told_otherwise(&UnderTest::Slipped(slip), program);
         assert!(found, "{slip:?} is not found");
     }
-    assert!(!told_otherwise(&UnderTest::Reference, OneJob::Doors));
+    assert!(!told_otherwise(&UnderTest::Reference, program));
+}
+
+#[test]
+fn a_slip_of_touches_is_found_in_the_doors() {
+    slips_show(&OF_TOUCHES, OneJob::Doors);
+}
+
+#[test]
+fn a_slip_of_walls_is_found_in_the_joiners_list() {
+    slips_show(&OF_WALLS, OneJob::Walls);
 }
 
 #[test]
@@ -117,7 +127,7 @@ fn a_picture_shows_its_listing() {
     assert_eq!(shown(PICTURE).as_deref(), Ok(expected));
 }
 
-/// The parts of a picture's line that say where a rectangle or a text stands and what it is called.
+/// The parts of a picture's line that say where a rectangle, a mark or a text stands and what it is called.
 fn telling_parts(line: &str) -> Vec<Range<usize>> {
     let until = |from: usize, word: &str| from..from + line[from..].find(word).unwrap();
     if line.starts_with("<text") || line.starts_with("<path stroke") {
@@ -128,6 +138,16 @@ fn telling_parts(line: &str) -> Vec<Range<usize>> {
                 [until(at, " dy"), until(says, "</text>")]
             })
             .collect();
+    }
+    if line.starts_with("<g class=") {
+        let mark = line.find("<text").unwrap();
+        let name = mark + line[mark..].find('>').unwrap();
+        return vec![
+            0..line.find("<rect").unwrap(),
+            until(line.find("<rect").unwrap(), " fill"),
+            until(mark, " dy"),
+            until(name, "</text>"),
+        ];
     }
     if line.starts_with("<rect x=") {
         return vec![until(0, " fill")];
@@ -175,6 +195,63 @@ fn a_changed_digit_of_a_picture_is_noticed() {
         let other = String::from_utf8(other).unwrap();
         assert_ne!(shown(&other), told, "digit at {place}");
     }
+}
+
+/// The lines of the picture that hold a mark.
+fn marks() -> Vec<&'static str> {
+    PICTURE
+        .split_inclusive('\n')
+        .filter(|line| line.starts_with("<g class=\"wall\""))
+        .collect()
+}
+
+#[test]
+fn a_mark_that_is_missing_doubled_or_out_of_order_is_noticed() {
+    let marks = marks();
+    assert_eq!(marks.len(), 7);
+    for pair in marks.windows(2) {
+        let swapped = [pair[1], pair[0]].concat();
+        assert!(shown(&PICTURE.replace(&pair.concat(), &swapped)).is_err());
+    }
+    for mark in marks {
+        assert!(shown(&PICTURE.replace(mark, "")).is_err());
+        assert!(shown(&PICTURE.replace(mark, &mark.repeat(2))).is_err());
+    }
+}
+
+#[test]
+fn a_mark_off_its_wall_or_on_another_is_noticed() {
+    let (first, second) = ("rotate(-90 200 268)", "x=\"200\" y=\"268\"");
+    assert!(PICTURE.contains(first) && PICTURE.contains(second));
+    let moved = |x: usize, y: usize, left: usize, top: usize| {
+        let mark = marks()[0]
+            .replace(first, &format!("rotate(-90 {x} {y})"))
+            .replace(second, &format!("x=\"{x}\" y=\"{y}\""))
+            .replace(
+                "<rect x=\"189\" y=\"262\"",
+                &format!("<rect x=\"{left}\" y=\"{top}\""),
+            );
+        shown(&PICTURE.replace(marks()[0], &mark))
+    };
+    assert!(moved(200, 188, 189, 182).is_ok());
+    assert!(moved(200, 228, 189, 222).is_err());
+    assert!(moved(200, 428, 189, 422).is_err());
+    assert!(moved(280, 188, 269, 182).is_err());
+}
+
+#[test]
+fn a_mark_that_covers_a_number_is_noticed() {
+    let mark = "width=\"22\" height=\"12\"";
+    assert!(marks()[0].contains(mark));
+    // The letter of the west side stands 30 units and two thirds from the wall.
+    let wide = marks()[0]
+        .replace(mark, "width=\"22\" height=\"60\"")
+        .replace("y=\"262\"", "y=\"238\"");
+    assert!(shown(&PICTURE.replace(marks()[0], &wide)).is_ok());
+    let wider = wide
+        .replace("\"60\"", "\"62\"")
+        .replace("\"238\"", "\"237\"");
+    assert!(shown(&PICTURE.replace(marks()[0], &wider)).is_err());
 }
 
 #[test]

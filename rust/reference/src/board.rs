@@ -3,6 +3,7 @@
 use crate::doors::{doors, Door};
 use crate::drawing::{draw, touch, Plan, Rectangle, Touch};
 use crate::job::{read, Job};
+use crate::register::{self, register, Wall};
 use crate::turning::turned;
 use crate::{refusal, Refusal};
 
@@ -55,12 +56,21 @@ impl Board {
         Ok(doors(&self.held()?.plan))
     }
 
+    /// The register is no thing of its own here: what is held is always what a fresh count from the plan gives.
+    pub fn walls(&self) -> Result<Vec<Wall>, Refusal> {
+        Ok(register(&self.held()?.plan))
+    }
+
     pub fn write_job(&self, buffer: &mut [u8]) -> Result<usize, Refusal> {
         write(&self.held()?.job.bytes(), buffer)
     }
 
     pub fn write_plan(&self, buffer: &mut [u8]) -> Result<usize, Refusal> {
         write(&self.held()?.plan.bytes(), buffer)
+    }
+
+    pub fn write_walls(&self, buffer: &mut [u8]) -> Result<usize, Refusal> {
+        write(&register::bytes(&self.walls()?), buffer)
     }
 
     pub fn job(&self) -> Option<&Job> {

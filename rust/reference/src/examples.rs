@@ -2,6 +2,7 @@
 
 use crate::drawing::{stretch, touch, within_bound, Rectangle, Touch};
 use crate::job::{Entry, Job};
+use crate::register::Wall;
 use crate::{opposite, star, Board, Refusal, ABOVE, BELOW, LEFT, RIGHT};
 
 const P1: &str = "01 00 01 01 02 00 08 00 00 01 01 02 02 03 03";
@@ -365,6 +366,8 @@ fn questions_and_writing_without_a_plan() {
     assert_eq!(board.rectangle(99), Err(Refusal(10)));
     assert_eq!(board.touch(99, 99), Err(Refusal(10)));
     assert_eq!(board.doors(), Err(Refusal(10)));
+    assert_eq!(board.walls(), Err(Refusal(10)));
+    assert_eq!(board.write_walls(&mut buffer), Err(Refusal(10)));
     assert_eq!(board.write_job(&mut buffer), Err(Refusal(10)));
     assert_eq!(board.write_plan(&mut buffer), Err(Refusal(10)));
     assert_eq!(buffer, [7; 4]);
@@ -542,4 +545,103 @@ fn writing_gives_back_the_bytes_and_touches_nothing_behind() {
     let mut plan = vec![0xAA; 5 + 8 * 8];
     assert_eq!(board.write_plan(&mut plan), Ok(69));
     assert_eq!(plan[..13], bytes("03 00 02 04 05 04 00 05 00 01 04 03 05"));
+}
+
+/// Direction, number, beginning, end, sides.
+fn told_walls(board: &Board) -> Vec<[usize; 5]> {
+    let numbers = |wall: &Wall| {
+        let direction = usize::from(wall.direction);
+        [direction, wall.number, wall.beginning, wall.end, wall.sides]
+    };
+    board.walls().expect("held").iter().map(numbers).collect()
+}
+
+#[test]
+fn the_walls_of_one_room() {
+    let expected = [
+        [0, 1, 1, 2, 1],
+        [0, 2, 1, 2, 1],
+        [1, 1, 1, 2, 1],
+        [1, 2, 1, 2, 1],
+    ];
+    assert_eq!(told_walls(&loaded(&bytes(P1))), expected);
+}
+
+const WALLS_OF_F: [[usize; 5]; 7] = [
+    [0, 1, 1, 4, 2],
+    [0, 2, 1, 4, 4],
+    [0, 3, 1, 4, 2],
+    [1, 1, 1, 3, 2],
+    [1, 2, 2, 3, 2],
+    [1, 3, 1, 2, 2],
+    [1, 4, 1, 3, 2],
+];
+
+/// W3: after each load and turn a fresh count, and a refused one leaves it.
+#[test]
+fn the_walls_of_f_before_and_after_a_turn() {
+    let mut board = loaded(&bytes(F));
+    assert_eq!(told_walls(&board), WALLS_OF_F);
+    assert_eq!(board.turn(4, 5), Err(Refusal(12)));
+    assert_eq!(board.load(&row(61)), Err(Refusal(2)));
+    assert_eq!(told_walls(&board), WALLS_OF_F);
+    board.turn(5, 6).expect("accepted");
+    let turned = [
+        [0, 1, 1, 3, 2],
+        [0, 2, 2, 3, 2],
+        [0, 3, 1, 2, 2],
+        [0, 4, 1, 3, 2],
+        [1, 1, 1, 4, 2],
+        [1, 2, 1, 4, 4],
+        [1, 3, 1, 4, 2],
+    ];
+    assert_eq!(told_walls(&board), turned);
+    board.turn(6, 5).expect("accepted");
+    assert_eq!(told_walls(&board), WALLS_OF_F);
+}
+
+/// Room 4 over 5, then 6 over the full height, then 7 over 8: two level walls have number 2 and stay two.
+#[test]
+fn walls_of_one_number_stay_apart() {
+    let board = loaded(&job(&[
+        &[(0, 0), (1, 1), (5, 2), (6, 3)],
+        &[(4, 0), (1, 1), (2, 2), (6, 3)],
+        &[(0, 0), (4, 1), (5, 1), (2, 2), (8, 3), (7, 3)],
+        &[(0, 0), (6, 1), (8, 2), (3, 3)],
+        &[(7, 0), (6, 1), (2, 2), (3, 3)],
+    ]));
+    let expected = [
+        [0, 1, 1, 3, 2],
+        [0, 2, 1, 3, 3],
+        [0, 3, 1, 3, 3],
+        [0, 4, 1, 3, 2],
+        [1, 1, 1, 4, 3],
+        [1, 2, 1, 2, 2],
+        [1, 2, 3, 4, 2],
+        [1, 3, 1, 4, 3],
+    ];
+    assert_eq!(told_walls(&board), expected);
+}
+
+#[test]
+fn the_register_has_a_wall_for_each_room_and_three_and_every_side() {
+    for rooms in [1, 2, 59, 60] {
+        let walls = told_walls(&loaded(&row(rooms)));
+        assert_eq!(walls.len(), rooms + 3);
+        assert_eq!(walls.iter().map(|wall| wall[4]).sum::<usize>(), 4 * rooms);
+        assert_eq!(walls[rooms + 1], [1, 1, 1, rooms + 1, rooms]);
+    }
+}
+
+#[test]
+fn the_register_is_written_as_fields_of_tag_8() {
+    let board = loaded(&bytes(F));
+    let mut buffer = vec![0xAA; 7 * 8 + 1];
+    assert_eq!(board.write_walls(&mut buffer), Ok(56));
+    let first = bytes("08 00 05 00 01 01 04 02 08 00 05 00 02 01 04 04");
+    assert_eq!(buffer[..16], first);
+    assert_eq!(buffer[48..], bytes("08 00 05 01 04 01 03 02 AA"));
+    let mut short = vec![0xAA; 55];
+    assert_eq!(board.write_walls(&mut short), Err(Refusal(14)));
+    assert!(short.iter().all(|&byte| byte == 0xAA));
 }

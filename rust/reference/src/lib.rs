@@ -8,6 +8,7 @@ pub mod doors;
 pub mod drawing;
 pub mod fields;
 pub mod job;
+pub mod register;
 pub mod turning;
 pub mod walls;
 

@@ -1,7 +1,7 @@
 //! The zone planner for Rust programs: safe functions over the proved static library. No state is kept between two calls.
 //!
-//! `plan_into`, `turned_into` and `star_into` write to a lent buffer and tell the length: the front is filled, what lies behind stays as it was, and a
-//! refusal leaves every byte. `plan`, `turned` and `star` bring a buffer that always suffices.
+//! `plan_into`, `walls_into`, `turned_into` and `star_into` write to a lent buffer and tell the length: the front is filled, what lies behind stays as it
+//! was, and a refusal leaves every byte. `plan`, `walls`, `turned` and `star` bring a buffer that always suffices.
 
 /// The number of a refusal, 1 to 14; 8 is not used.
 #[derive(Clone, Copy, Debug, PartialEq, Eq)]
@@ -17,6 +17,9 @@ pub struct Touch {
 /// No plan is longer: a sheet and 64 rectangles.
 pub const PLAN_MOST: usize = 5 + 64 * 8;
 
+/// No list of walls is longer: 60 rooms have 63 walls.
+pub const WALLS_MOST: usize = 63 * 8;
+
 /// No accepted job is longer: 60 stars of 360 pairs.
 pub const JOB_MOST: usize = 4 + 60 * 3 + 360 * 2;
 
@@ -27,6 +30,13 @@ const FIRST_VALUE: usize = 256;
 mod library {
     extern "C" {
         pub fn tirunoiwa_plan(
+            job: *const u8,
+            job_length: usize,
+            out: *mut u8,
+            out_length: usize,
+        ) -> usize;
+
+        pub fn tirunoiwa_walls(
             job: *const u8,
             job_length: usize,
             out: *mut u8,
@@ -59,6 +69,11 @@ pub fn plan(job: &[u8]) -> Result<Vec<u8>, Refusal> {
     written(PLAN_MOST, |out| plan_into(job, out))
 }
 
+/// The walls of a job's plan, for the joiner.
+pub fn walls(job: &[u8]) -> Result<Vec<u8>, Refusal> {
+    written(WALLS_MOST, |out| walls_into(job, out))
+}
+
 /// The job with the contact of two rooms turned.
 pub fn turned(job: &[u8], u: usize, v: usize) -> Result<Vec<u8>, Refusal> {
     written(JOB_MOST, |out| turned_into(job, u, v, out))
@@ -87,6 +102,14 @@ pub fn plan_into(job: &[u8], out: &mut [u8]) -> Result<usize, Refusal> {
     // SAFETY: both are slices, so the pointers are not null and valid for the lengths; `out` is lent alone, so `job` does not overlap it.
     let answer =
         unsafe { library::tirunoiwa_plan(job.as_ptr(), job.len(), out.as_mut_ptr(), out.len()) };
+    value(answer)
+}
+
+/// The walls of a job's plan, written to the front of a lent buffer.
+pub fn walls_into(job: &[u8], out: &mut [u8]) -> Result<usize, Refusal> {
+    // SAFETY: both are slices, so the pointers are not null and valid for the lengths; `out` is lent alone, so `job` does not overlap it.
+    let answer =
+        unsafe { library::tirunoiwa_walls(job.as_ptr(), job.len(), out.as_mut_ptr(), out.len()) };
     value(answer)
 }
 

@@ -1,7 +1,7 @@
 //! Calls each function of the static library from Rust. Every byte of a lent buffer is looked at, behind what was written too.
 
-use tirunoiwa::{plan, plan_into, star, star_into, touch, turned, turned_into};
-use tirunoiwa::{Refusal, Touch, JOB_MOST, PLAN_MOST};
+use tirunoiwa::{plan, plan_into, star, star_into, touch, turned, turned_into, walls, walls_into};
+use tirunoiwa::{Refusal, Touch, JOB_MOST, PLAN_MOST, WALLS_MOST};
 
 const MOST: usize = 1024;
 
@@ -45,6 +45,26 @@ const P9_PLAN: &[u8] = &[
     4, 0, 5, 5, 2, 2, 4, 3, // 5
     4, 0, 5, 6, 1, 1, 3, 2, // 6
     4, 0, 5, 7, 3, 1, 4, 2, // 7
+];
+
+const F_WALLS: &[u8] = &[
+    8, 0, 5, 0, 1, 1, 4, 2, // along W
+    8, 0, 5, 0, 2, 1, 4, 4, // between 6, 4 and 7, 5
+    8, 0, 5, 0, 3, 1, 4, 2, // along E
+    8, 0, 5, 1, 1, 1, 3, 2, // along S
+    8, 0, 5, 1, 2, 2, 3, 2, // between 7 and 5
+    8, 0, 5, 1, 3, 1, 2, 2, // between 6 and 4
+    8, 0, 5, 1, 4, 1, 3, 2, // along N
+];
+
+const P9_WALLS: &[u8] = &[
+    8, 0, 5, 0, 1, 1, 3, 2, // along W
+    8, 0, 5, 0, 2, 2, 3, 2, // between 4 and 5
+    8, 0, 5, 0, 3, 1, 2, 2, // between 6 and 7
+    8, 0, 5, 0, 4, 1, 3, 2, // along E
+    8, 0, 5, 1, 1, 1, 4, 2, // along S
+    8, 0, 5, 1, 2, 1, 4, 4, // between 6, 7 and 4, 5
+    8, 0, 5, 1, 3, 1, 4, 2, // along N
 ];
 
 /// No rooms.
@@ -126,6 +146,41 @@ fn plans_are_refused() {
     assert_eq!(plan(P2), Err(Refusal(2)));
     assert_eq!(plan(P3), Err(Refusal(1)));
     assert_eq!(plan(P10), Err(Refusal(9)));
+}
+
+#[test]
+fn walls_are_written() {
+    fills(MOST, F_WALLS, |out| walls_into(F, out));
+    fills(F_WALLS.len(), F_WALLS, |out| walls_into(F, out));
+    fills(WALLS_MOST, P9_WALLS, |out| walls_into(P9, out));
+    assert_eq!(walls(F), Ok(F_WALLS.to_vec()));
+    assert_eq!(walls(P9), Ok(P9_WALLS.to_vec()));
+}
+
+/// The longest list of walls: sixty rooms in a row.
+#[test]
+fn the_longest_list_of_walls_is_written() {
+    let job = include_bytes!("../../../examples/row60.job");
+    let sides = |x: u8| if x == 1 || x == 61 { 1 } else { 2 };
+    let upright = (1..62).map(|x| [0, x, 1, 2, sides(x)]);
+    let row: Vec<u8> = upright
+        .chain([[1, 1, 1, 61, 60], [1, 2, 1, 61, 60]])
+        .flat_map(|[d, n, from, to, sides]| [8, 0, 5, d, n, from, to, sides])
+        .collect();
+    assert_eq!(row.len(), WALLS_MOST);
+    fills(WALLS_MOST, &row, |out| walls_into(job, out));
+    refuses(WALLS_MOST - 1, 14, |out| walls_into(job, out));
+    assert_eq!(walls(job), Ok(row));
+}
+
+#[test]
+fn walls_are_refused() {
+    refuses(F_WALLS.len() - 1, 14, |out| walls_into(F, out));
+    refuses(0, 14, |out| walls_into(F, out));
+    refuses(MOST, 2, |out| walls_into(P2, out));
+    refuses(MOST, 1, |out| walls_into(P3, out));
+    refuses(0, 9, |out| walls_into(P10, out));
+    assert_eq!(walls(P10), Err(Refusal(9)));
 }
 
 #[test]

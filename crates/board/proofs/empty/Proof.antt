@@ -9,8 +9,11 @@ none-held-requires c κs = search needs
 no-plan-requires : tie.Need-no-plan-requires
 no-plan-requires c κs = search needs
 
+no-register-requires : tie.Need-no-register-requires
+no-register-requires c κs = search needs
+
 returns : tie.Need-returns
 returns c = search (none-held, needs)
 
 pub empty-spec : {M : Type 1} → statement M
-empty-spec = tie.close (tie.spec none-held-requires no-plan-requires returns)
+empty-spec = tie.close (tie.spec none-held-requires no-plan-requires no-register-requires returns)

@@ -13,6 +13,9 @@ plan-stars-requires c κs = search needs
 enum-told : tie.Need-enum-told
 enum-told c = search needs
 
+register-of-requires : tie.Need-register-of-requires
+register-of-requires c κs = search needs
+
 enum-known-drawn : tie.Need-enum-known-drawn
 enum-known-drawn c = search needs
 
@@ -23,7 +26,11 @@ returns : tie.Need-returns
 returns c = search (drawn-so, stars-drawn numberedAny, needs)
 
 returns-2 : tie.Need-returns-2
-returns-2 c = search (stays-tells, drawn-not, stars-drawn numberedAny, needs)
+returns-2 c =
+    let drawn = c .before .before .before .before .before in
+    let counted = drawn .before .before .before .before .before .before .before .before in
+    stays-tells _ _ _ _ _ (c .stays .ensures)
+    (drawn-not _ _ _ _ (stars-drawn numberedAny _ _ _ (counted .wide .ensures .0) (drawn .plan-stars .ensures)) _ (c .before .before .drawn .given .1))
 
 pub hold-numbered-spec : {M : Type 1} → statement M
 hold-numbered-spec =
@@ -32,6 +39,7 @@ hold-numbered-spec =
     wide-requires
     plan-stars-requires
     enum-told
+    register-of-requires
     enum-known-drawn
     stays-requires
     returns

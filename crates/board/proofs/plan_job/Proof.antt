@@ -15,6 +15,9 @@ draw-stars-requires c κs = search needs
 enum-told-2 : tie.Need-enum-told-2
 enum-told-2 c = search needs
 
+register-of-requires : tie.Need-register-of-requires
+register-of-requires c κs = search needs
+
 enum-known-drawn : tie.Need-enum-known-drawn
 enum-known-drawn c = search needs
 
@@ -44,6 +47,7 @@ plan-job-spec =
     enum-told
     draw-stars-requires
     enum-told-2
+    register-of-requires
     enum-known-drawn
     refused-requires
     enum-known-answer

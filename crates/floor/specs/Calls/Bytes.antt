@@ -51,7 +51,7 @@ rects-bytes (r ∷ rs) h =
 
 module _ (j : Job) (p : Plan) (s : Sound j p) where
   -- the limits that were tested, and the bound of the sheet
-  limits : (length j ≤ 60) × (pairsIn j ≤ 360) × (p .width ≤ length j + 2) × (p .height ≤ length j + 2)
+  pub limits : (length j ≤ 60) × (pairsIn j ≤ 360) × (p .width ≤ length j + 2) × (p .height ≤ length j + 2)
   unfolding test2 test3
   limits = (
     leb-true (length j) 60 (and-parts (leb 1 (length j)) _ (s .pass2) .1),

@@ -14,10 +14,11 @@ use Rattle.floor.specs.Jobs.{Job, writeJob}
 use Rattle.floor.specs.Jobs.Written.{read-write-job, write-read-job}
 use Rattle.floor.specs.Plans.{Plan, Answer, refused, held, drawn, writePlan}
 use Rattle.floor.specs.Plans.Held.{drawn-held, drawn-again}
+use Rattle.floor.specs.Registers.{register, writeRegister}
 use Rattle.floor.specs.Turns.{turn, turnedBy}
 use Rattle.floor.specs.Turns.Restore.{asked, turned-restores}
 use Rattle.floor.specs.Calls.{load, Board, empty, holding, Call, loads, turns, rectangle, writesJob, writesPlan, Reply, refusal, done, wrote, Left}
-use Rattle.floor.specs.Calls.{Restored, Step, lent, refuse, after, asks, writes, step, touches}
+use Rattle.floor.specs.Calls.{Restored, Step, lent, refuse, after, asks, writes, step, touches, writesRegister}
 use Rattle.floor.specs.Calls.Sound.{Sound, sound-good, load-held, load-reads}
 
 -- what is done is not refused
@@ -54,11 +55,13 @@ refused-leaves empty (rectangle v) k e = record { same-board = refl; same-buffer
 refused-leaves empty (touches u v) k e = record { same-board = refl; same-buffer = refl }
 refused-leaves empty (writesJob buf) k e = record { same-board = refl; same-buffer = refl }
 refused-leaves empty (writesPlan buf) k e = record { same-board = refl; same-buffer = refl }
+refused-leaves empty (writesRegister buf) k e = record { same-board = refl; same-buffer = refl }
 refused-leaves (holding i q) (turns u v) k e = after-refused (holding i q) (turn i u v) k e
 refused-leaves (holding i q) (rectangle v) k e = asks-left (holding i q) _ _
 refused-leaves (holding i q) (touches u v) k e = asks-left (holding i q) _ _
 refused-leaves (holding i q) (writesJob buf) k e = writes-refused (holding i q) _ (writeJob i) buf k e
 refused-leaves (holding i q) (writesPlan buf) k e = writes-refused (holding i q) _ (writePlan q) buf k e
+refused-leaves (holding i q) (writesRegister buf) k e = writes-refused (holding i q) _ (writeRegister (register q)) buf k e
 
 -- WHAT A WRITING DOES: the front is filled, the length told, nothing behind it touched, and the board left
 pub record Written (b : Board) (bs buf : List ℕ) (n : ℕ) (s : Step) : Type 0 where
@@ -94,6 +97,11 @@ pub wrote-plan : (j : Job) (p : Plan) (buf : List ℕ) (n : ℕ) → step (holdi
     → Written (holding j p) (writePlan p) buf n (step (holding j p) (writesPlan buf))
 unfolding step
 wrote-plan j p buf n e = writes-wrote (holding j p) _ (writePlan p) buf n (leb-true (length (writePlan p)) (length buf)) e
+
+pub wrote-register : (j : Job) (p : Plan) (buf : List ℕ) (n : ℕ) → step (holding j p) (writesRegister buf) .reply ≡ wrote n
+    → Written (holding j p) (writeRegister (register p)) buf n (step (holding j p) (writesRegister buf))
+unfolding step
+wrote-register j p buf n e = writes-wrote (holding j p) _ (writeRegister (register p)) buf n (leb-true (length (writeRegister (register p))) (length buf)) e
 
 -- a load that holds, on whatever board
 after-held : (b : Board) (r : Answer) (j : Job) (p : Plan) → r ≡ held j p → after b r .board ≡ holding j p

@@ -13,10 +13,11 @@ use Rattle.floor.specs.Jobs.Written.{read-test2}
 use Rattle.floor.specs.Plans.{Plan, Answer, refused, held, drawRead, writePlan}
 use Rattle.floor.specs.Plans.Held.{not-held, Drawn, drawn-held, drawn-again, held-good}
 use Rattle.floor.specs.Floor.{GoodPlan}
+use Rattle.floor.specs.Registers.{register, writeRegister}
 use Rattle.floor.specs.Turns.{turn, Kept, turnedBy}
 use Rattle.floor.specs.Turns.Restore.{asked, turned-keeps}
 use Rattle.floor.specs.Calls.{load, Board, empty, holding, Call, loads, turns, rectangle, writesJob, writesPlan, Reply, refuse, after, asks, writes, step}
-use Rattle.floor.specs.Calls.{run, touches}
+use Rattle.floor.specs.Calls.{run, touches, writesRegister}
 
 -- WHAT IS HELD: a job past tests 2 to 6, and its own drawing
 pub record Sound (j : Job) (p : Plan) : Type 0 where
@@ -104,11 +105,13 @@ step-sound empty (rectangle v) s = s
 step-sound empty (touches u v) s = s
 step-sound empty (writesJob buf) s = s
 step-sound empty (writesPlan buf) s = s
+step-sound empty (writesRegister buf) s = s
 step-sound (holding i q) (turns u v) s = after-sound (holding i q) (turn i u v) s (λ j p e. turn-held i q u v j p s e)
 step-sound (holding i q) (rectangle v) s = rw (asks-board (holding i q) _ _) s
 step-sound (holding i q) (touches u v) s = rw (asks-board (holding i q) _ _) s
 step-sound (holding i q) (writesJob buf) s = rw (writes-board (holding i q) _ (writeJob i) buf) s
 step-sound (holding i q) (writesPlan buf) s = rw (writes-board (holding i q) _ (writePlan q) buf) s
+step-sound (holding i q) (writesRegister buf) s = rw (writes-board (holding i q) _ (writeRegister (register q)) buf) s
 
 -- ANY CALLS
 pub run-sound : (b : Board) (cs : List Call) → SoundBoard b → SoundBoard (run b cs)

@@ -21,11 +21,12 @@ use Rattle.floor.specs.Walls.Walk.{numbers-respects, numbers-positive}
 use Rattle.floor.specs.Walls.Rules.{obeys-respects, respects-obeys, numbered, numbers-are, numbers-least, to-vertex}
 use Rattle.floor.specs.Plans.{Plan, planOf, joined, sharesJoined, inOrder, roundInOrder, drawable, Answer, refused, held, past, tested, planned, Alike}
 use Rattle.floor.specs.Plans.{one-plan, one-refusal, drawn, drawRead, writePlan}
+use Rattle.floor.specs.Registers.{register, writeRegister}
 use Rattle.floor.specs.Turns.{turned, turningAt, turningFrom, inContact, turning, turn, turnedBy}
 use Rattle.floor.specs.Turns.Swing.{last-restarted, restart-turned, length-listOf}
 use Rattle.floor.specs.Turns.Restore.{turnable, turned-keeps}
 use Rattle.floor.specs.Calls.{load, Board, empty, holding, Call, loads, turns, rectangle, writesJob, writesPlan, Reply, wrote, refuse, BoardsAlike}
-use Rattle.floor.specs.Calls.{StepsAlike, both-empty, both-hold, after, asks, writes, step, run, touches}
+use Rattle.floor.specs.Calls.{StepsAlike, both-empty, both-hold, after, asks, writes, step, run, touches, writesRegister}
 use Rattle.floor.specs.Calls.Sound.{Sound, SoundBoard, sound-good, step-sound}
 use Rattle.floor.specs.Calls.Exact.{kind-found}
 
@@ -397,6 +398,7 @@ step-alike (rectangle v) s t both-empty = record { one-reply = refl; boards = bo
 step-alike (touches u v) s t both-empty = record { one-reply = refl; boards = both-empty }
 step-alike (writesJob buf) s t both-empty = record { one-reply = refl; boards = both-empty }
 step-alike (writesPlan buf) s t both-empty = record { one-reply = refl; boards = both-empty }
+step-alike (writesRegister buf) s t both-empty = record { one-reply = refl; boards = both-empty }
 step-alike (turns u v) s t (both-hold {j} {i} {p} o) =
     after-alike (holding j p) (holding i p) (both-hold o) (turn-alike o p p s t u v)
 step-alike (rectangle v) s t (both-hold {j} {i} {p} o) =
@@ -407,6 +409,8 @@ step-alike (writesJob buf) s t (both-hold {j} {i} {p} o) =
     writes-alike (holding j p) (holding i p) (writeJob j) (writeJob i) buf (written-same o) (both-hold o)
 step-alike (writesPlan buf) s t (both-hold {j} {i} {p} o) =
     writes-alike (holding j p) (holding i p) (writePlan p) (writePlan p) buf refl (both-hold o)
+step-alike (writesRegister buf) s t (both-hold {j} {i} {p} o) =
+    writes-alike (holding j p) (holding i p) (writeRegister (register p)) (writeRegister (register p)) buf refl (both-hold o)
 
 -- ANY CALLS on two such boards
 pub run-alike : (b c : Board) (ks : List Call) → SoundBoard b → SoundBoard c → BoardsAlike b c → BoardsAlike (run b ks) (run c ks)

@@ -13,7 +13,7 @@ use Rattle.floor.specs.Jobs.{Entry, Job, Vertex, Room, opposite, starOf,
 use Rattle.floor.specs.Jobs.Facts.{EntryOk, star-frame}
 use Rattle.floor.specs.Walls.{low, at}
 use Rattle.floor.specs.Plans.{Plan, rectOf, Touch, clear, wall, isWall, touchOf, planOf, nextSide, joined}
-use Rattle.floor.specs.Floor.{Inside, GoodPlan, Solid, Borders, Shares, Joined}
+use Rattle.floor.specs.Floor.{GoodPlan, Solid, Borders, Shares, Joined}
 use Rattle.floor.specs.Floor.Sides.{Side, up, left, down, right, opp, Beside, wn, ws, ne, se}
 use Rattle.floor.specs.Floor.Whole.{beside-back}
 use Rattle.floor.specs.Floor.Read.{num, few-sides}

@@ -3,8 +3,8 @@ use Prim.Native.Nat.{ℕ, zero, suc, _+_, _≤_, _<_}
 use mathlib.Core.Path.{_≡_, refl, sym, ap, _∙_}
 use mathlib.Core.Logic.{_⊎_, inl, inr}
 use mathlib.Core.Bool.{Bool, true, false, cond, not, _&&_, _||_}
-use mathlib.Core.List.{List, [], _∷_, _++_, map, List·Memᴰ, List·Memᴰ·head, List·Memᴰ·tail, List·Memᴰ·not-nil, List·Memᴰ·append-cases}
-use mathlib.Core.List.{Memᴰ·append-left, Memᴰ·append-right, head-eq-of-cons-eq, tail-eq-of-cons-eq}
+use mathlib.Core.List.{List, [], _∷_, _++_, map, List·Memᴰ, List·Memᴰ·head, List·Memᴰ·tail, List·Memᴰ·not-nil, List·Memᴰ·append-cases, Memᴰ·append-left}
+use mathlib.Core.List.{Memᴰ·append-right, head-eq-of-cons-eq, tail-eq-of-cons-eq}
 use lib.ListN.{length, getD}
 use lib.Dec.{leb}
 use native.Mathlib.Omega.{arith}
@@ -250,6 +250,88 @@ module _ {A : Type 0} where
   pairwise-at r (x ∷ xs) d e (suc i) zero h l = absurd (omega arith)
   pairwise-at r (x ∷ xs) d e (suc i) (suc k) h l = pairwise-at r xs d (and-right (all (r x) xs) (pairwise r xs) e) i k (omega arith) (omega arith)
 
+  -- a member that is kept is a member of the whole, and passes
+  pub keep-mem : (p : A → Bool) (xs : List A) (x : A) → List·Memᴰ x (keep p xs) → List·Memᴰ x xs × (p x ≡ true)
+  unfolding keep
+  keep-mem p [] x m = absurd (List·Memᴰ·not-nil m)
+  keep-mem p (y ∷ xs) x m = go (p y) refl m (keep-mem p xs x)
+    where
+      go : (b : Bool) → p y ≡ b → List·Memᴰ x (cond b (y ∷ keep p xs) (keep p xs)) → (List·Memᴰ x (keep p xs) → List·Memᴰ x xs × (p x ≡ true))
+          → List·Memᴰ x (y ∷ xs) × (p x ≡ true)
+      go true e (List·Memᴰ·head q) below = (List·Memᴰ·head q, ap p q ∙ e)
+      go true e (List·Memᴰ·tail m) below = let (i, h) = below m in (List·Memᴰ·tail i, h)
+      go false e m below = let (i, h) = below m in (List·Memᴰ·tail i, h)
+
+  -- a member that passes is kept
+  pub mem-keep : (p : A → Bool) (xs : List A) (x : A) → List·Memᴰ x xs → p x ≡ true → List·Memᴰ x (keep p xs)
+  unfolding keep
+  mem-keep p (y ∷ xs) x (List·Memᴰ·head q) e = rw (ap p (sym q) ∙ e) (List·Memᴰ·head q)
+  mem-keep p (y ∷ xs) x (List·Memᴰ·tail m) e = go (p y) (mem-keep p xs x m e)
+    where
+      go : (b : Bool) → List·Memᴰ x (keep p xs) → List·Memᴰ x (cond b (y ∷ keep p xs) (keep p xs))
+      go true i = List·Memᴰ·tail i
+      go false i = i
+
+  -- pairs of a list made of two
+  pub pairwise-append : (r : A → A → Bool) (xs ys : List A) → pairwise r xs ≡ true → pairwise r ys ≡ true
+      → ((x y : A) → List·Memᴰ x xs → List·Memᴰ y ys → r x y ≡ true) → pairwise r (xs ++ ys) ≡ true
+  unfolding pairwise
+  pairwise-append r [] ys p q h = q
+  pairwise-append r (x ∷ xs) ys p q h =
+      let (a, b) = and-parts (all (r x) xs) (pairwise r xs) p in
+      and-both _ _ (mem-all (r x) (xs ++ ys) (λ y m. go y (List·Memᴰ·append-cases xs m)))
+      (pairwise-append r xs ys b q (λ y z m n. h y z (List·Memᴰ·tail m) n))
+    where
+      go : (y : A) → List·Memᴰ y xs ⊎ List·Memᴰ y ys → r x y ≡ true
+      go y (inl m) = all-mem (r x) xs (and-parts (all (r x) xs) (pairwise r xs) p .0) y m
+      go y (inr m) = h x y (List·Memᴰ·head refl) m
+
+  -- two lists in strict order with the same members are one
+  pub sorted-same : (r : A → A → Bool) → ((x y : A) → r x y ≡ true → r y x ≡ true → ⊥) → (xs ys : List A) → pairwise r xs ≡ true → pairwise r ys ≡ true
+      → ((x : A) → List·Memᴰ x xs → List·Memᴰ x ys) → ((x : A) → List·Memᴰ x ys → List·Memᴰ x xs) → xs ≡ ys
+  unfolding pairwise
+  sorted-same r asym [] [] p q f g = refl
+  sorted-same r asym [] (y ∷ ys) p q f g = absurd (List·Memᴰ·not-nil (g y (List·Memᴰ·head refl)))
+  sorted-same r asym (x ∷ xs) [] p q f g = absurd (List·Memᴰ·not-nil (f x (List·Memᴰ·head refl)))
+  sorted-same r asym (x ∷ xs) (y ∷ ys) p q f g = go (f x (List·Memᴰ·head refl)) (g y (List·Memᴰ·head refl))
+      (sorted-same r asym xs ys (and-parts (all (r x) xs) (pairwise r xs) p .1) (and-parts (all (r y) ys) (pairwise r ys) q .1))
+    where
+      before-x : (z : A) → List·Memᴰ z xs → r x z ≡ true
+      before-x = all-mem (r x) xs (and-parts (all (r x) xs) (pairwise r xs) p .0)
+
+      before-y : (z : A) → List·Memᴰ z ys → r y z ≡ true
+      before-y = all-mem (r y) ys (and-parts (all (r y) ys) (pairwise r ys) q .0)
+
+      -- the rest of the one is the rest of the other
+      rest : (a b : A) (us vs : List A) → a ≡ b → ((z : A) → List·Memᴰ z us → r a z ≡ true) → ((z : A) → List·Memᴰ z us → List·Memᴰ z (b ∷ vs))
+          → (z : A) → List·Memᴰ z us → List·Memᴰ z vs
+      rest a b us vs e h k z m = two (k z m)
+        where
+          self : z ≡ b → ⊥
+          self c = let t : r a a ≡ true = rw (c ∙ sym e) at (h z m) in asym a a t t
+
+          two : List·Memᴰ z (b ∷ vs) → List·Memᴰ z vs
+          two (List·Memᴰ·head c) = absurd (self c)
+          two (List·Memᴰ·tail n) = n
+
+      same-first : x ≡ y → (((z : A) → List·Memᴰ z xs → List·Memᴰ z ys) → ((z : A) → List·Memᴰ z ys → List·Memᴰ z xs) → xs ≡ ys) → x ∷ xs ≡ y ∷ ys
+      same-first e below =
+          let t : xs ≡ ys = below (rest x y xs ys e before-x (λ z m. f z (List·Memᴰ·tail m)))
+          (rest y x ys xs (sym e) before-y (λ z m. g z (List·Memᴰ·tail m))) in
+          rw (e, t)
+
+      go : List·Memᴰ x (y ∷ ys) → List·Memᴰ y (x ∷ xs)
+          → (((z : A) → List·Memᴰ z xs → List·Memᴰ z ys) → ((z : A) → List·Memᴰ z ys → List·Memᴰ z xs) → xs ≡ ys) → x ∷ xs ≡ y ∷ ys
+      go (List·Memᴰ·head e) n below = same-first e below
+      go (List·Memᴰ·tail m) (List·Memᴰ·head e) below = same-first (sym e) below
+      go (List·Memᴰ·tail m) (List·Memᴰ·tail n) below = absurd (asym x y (before-x y n) (before-y x m))
+
+  -- tests that agree on the members count alike
+  pub count-same : (p q : A → Bool) (xs : List A) → ((x : A) → List·Memᴰ x xs → p x ≡ q x) → count p xs ≡ count q xs
+  count-same p q [] h = count-nil p ∙ sym (count-nil q)
+  count-same p q (x ∷ xs) h =
+      omega (arith, count-cons p x xs, count-cons q x xs, ap bit (h x (List·Memᴰ·head refl)), count-same p q xs (λ y m. h y (List·Memᴰ·tail m)))
+
   -- a list taken apart at a member
   pub record Apart (x : A) (xs : List A) : Type 0 where
     pub front : List A
@@ -269,6 +351,19 @@ module _ {A : Type 0} where
   getD-upFrom h u zero i d l = absurd (omega arith)
   getD-upFrom h u (suc n) zero d l = ap h (omega arith)
   getD-upFrom h u (suc n) (suc i) d l = getD-upFrom h (suc u) n i d (omega arith) ∙ ap h (omega arith)
+
+-- members of a list that a function made
+module _ {A B : Type 0} (h : A → B) where
+  -- each member of the list made is what the function gives of a member of the other
+  pub map-mem : (xs : List A) (y : B) → List·Memᴰ y (map h xs) → (x : A) × List·Memᴰ x xs × (y ≡ h x)
+  map-mem [] y m = absurd (List·Memᴰ·not-nil m)
+  map-mem (x ∷ xs) y (List·Memᴰ·head q) = (x, List·Memᴰ·head refl, q)
+  map-mem (x ∷ xs) y (List·Memᴰ·tail m) = let (z, i, e) = map-mem xs y m in (z, List·Memᴰ·tail i, e)
+
+  -- what the function gives of a member is a member of the list made
+  pub mem-map : (xs : List A) (x : A) → List·Memᴰ x xs → List·Memᴰ (h x) (map h xs)
+  mem-map (y ∷ xs) x (List·Memᴰ·head q) = List·Memᴰ·head (ap h q)
+  mem-map (y ∷ xs) x (List·Memᴰ·tail m) = List·Memᴰ·tail (mem-map xs x m)
 
 -- numbers in a row
 pub length-upFrom : (u n : ℕ) → length (upFrom u n) ≡ n

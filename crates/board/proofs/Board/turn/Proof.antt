@@ -37,7 +37,11 @@ returns-2 c = let held = c .before .before .before .before .before in
     (held .turn-held .ensures) _ (c .before .before .swing .given .1))
 
 returns-3 : tie.Need-returns-3
-returns-3 c = search (turn-swings, needs)
+returns-3 c =
+    let told = c .before .before .before in
+    let held = told .before .before .before in
+    turn-swings _ (held .before .before .before .before .before .before .before .before .before .before .if1 .left) _ _ _ (held .before .wide .ensures .0) _ _
+    (held .turn-held .ensures) _ _ _ (told .enum-told .given .1) _ (c .hold-numbered .ensures)
 
 pub turn-spec : {M : Type 1} → statement M
 turn-spec =

@@ -1,0 +1,4 @@
+pub mod Sorting
+pub mod Chains
+pub mod Kept
+pub mod Merging
