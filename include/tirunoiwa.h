@@ -18,7 +18,7 @@
  * Bytes of `out` behind those that were written stay as they were.
  *
  * The caller owes: each pointer is not null, even where its length is 0, and valid for its length, and a length is below 2^63; `job` and `out` do not
- * overlap; during the call nobody else writes `job`, or reads or writes `out`. A call was measured to run within 256 KiB of stack.
+ * overlap; during the call nobody else writes `job`, or reads or writes `out`. A call takes at most 32 KiB of stack.
  */
 #ifndef TIRUNOIWA_H
 #define TIRUNOIWA_H
