@@ -1,0 +1,6 @@
+mod Linking
+mod Looking
+mod Running
+mod Ordered
+mod Writing
+pub mod Corollaries
