@@ -1,4 +1,5 @@
 mod Linking
+mod Arranging
 mod Looking
 mod Running
 mod Ordered

@@ -1,5 +1,5 @@
--- Rooms linked by their corners, and the room that is a rectangle found by the links. Assumes nothing.
-use Prim.Native.Nat.{ℕ, zero, suc, _+_, _-_, _*_, _≤_, _<_}
+-- Rooms linked by the marks of their corners, and the room that is a rectangle found by the links. Assumes nothing.
+use Prim.Native.Nat.{ℕ, zero, suc, _+_, _-_, _*_, _%_, _≤_, _<_}
 use mathlib.Core.Path.{_≡_, refl, sym, ap, _∙_}
 use mathlib.Core.Logic.{_⊎_, inl, inr}
 use mathlib.Core.Bool.{Bool, true, false}
@@ -15,7 +15,7 @@ use Rattle.floor.specs.Cuts.ByWalls.{sameBox, leafOf}
 use Rattle.drawing.specs.declared.Rect.{Rect as HeldRect}
 use Rattle.drawing.specs.Rects.{rectIn, rectAt, rectsIn}
 use Rattle.cuts.specs.Tasks.{roomsFrom, leafRoom}
-use Rattle.cuts.specs.Links.{cornerAt, FirstAt, RoomAt, Follows, Linked}
+use Rattle.cuts.specs.Links.{markOf, cornerAt, FirstAt, RoomAt, Follows, Linked}
 
 -- A ROOM THAT IS THE RECTANGLE, test by test
 module _ (b : HeldRect) (l : List ℕ) (v x : ℕ) (ex : x ≡ getD l (4 * v) 0) where
@@ -71,10 +71,15 @@ put-none [] k x h = refl
 put-none (y ∷ l) zero x h = absurd (omega arith)
 put-none (y ∷ l) (suc k) x h = ap (λ (t : List ℕ). y ∷ t) (put-none l k x (omega arith))
 
--- a corner's numbers, added
-pub corner-is : (l : List ℕ) (v x y a c : ℕ) → x ≡ a → a ≡ getD l (4 * v) 0 → y ≡ c → c ≡ getD l (4 * v + 1) 0 → x + y ≡ cornerAt l v
+-- a corner's mark
+pub mark-is : (x y x′ y′ : ℕ) → x′ ≡ x → y′ ≡ y → (11 * x′ + y′) % 127 ≡ markOf x y
+unfolding markOf
+mark-is x y x′ y′ p q = rw (p, q)
+
+-- the mark of a vertex's corner
+pub corner-is : (l : List ℕ) (v x y r : ℕ) → x ≡ getD l (4 * v) 0 → y ≡ getD l (4 * v + 1) 0 → r ≡ markOf x y → r ≡ cornerAt l v
 unfolding cornerAt
-corner-is l v x y a c ex ea ey ec = rw (ex, ea, ey, ec)
+corner-is l v x y r ex ey er = rw (← ex, ← ey) er
 
 -- what one room's link stores
 pub link-next : (l heads next next′ : List ℕ) (v x old : ℕ) → x ≡ cornerAt l v → old ≡ getD heads x 0 → next′ ≡ set next v old
@@ -88,11 +93,11 @@ link-head l heads heads′ v x ex e = rw (← ex) e
 -- THE LINKS, room by room
 module _ (l : List ℕ) (last : ℕ) where
   -- no room is linked at first
-  pub link-start : (heads next : List ℕ) → heads ≡ replicate 128 0 → Linked l last last heads next
+  pub link-start : (heads next : List ℕ) → heads ≡ replicate 127 0 → Linked l last last heads next
   link-start heads next e = record {
     firsts = λ x h. record {
       none-before = λ u a b i q. absurd (omega arith);
-      there = λ i. absurd (i (ap (λ (l : List ℕ). getD l x 0) e ∙ nought 128 x));
+      there = λ i. absurd (i (ap (λ (l : List ℕ). getD l x 0) e ∙ nought 127 x));
     };
     follows = λ u a b. absurd (omega arith);
   }
@@ -151,17 +156,17 @@ module _ (l : List ℕ) (last : ℕ) where
 
 -- BY THE LINKS
 module _ (b : HeldRect) (l : List ℕ) (last : ℕ) where
-  -- a room with another corner is not b
-  box-else : (v : ℕ) → (cornerAt l v ≡ b .x1 + b .y1 → ⊥) → false ≡ sameBox (rectIn b) (rectAt l v)
+  -- a room with another mark is not b
+  box-else : (v : ℕ) → (cornerAt l v ≡ markOf (b .x1) (b .y1) → ⊥) → false ≡ sameBox (rectIn b) (rectAt l v)
   unfolding cornerAt
   box-else v h = go (ℕ-discrete (b .x1) (getD l (4 * v) 0))
     where
       go : Dec (b .x1 ≡ getD l (4 * v) 0) → false ≡ sameBox (rectIn b) (rectAt l v)
       go (no q) = box-left b l v (getD l (4 * v) 0) refl q
-      go (yes q) = box-lower b l v (getD l (4 * v) 0) refl (getD l (4 * v + 1) 0) q refl (λ e. h (omega arith))
+      go (yes q) = box-lower b l v (getD l (4 * v) 0) refl (getD l (4 * v + 1) 0) q refl (λ e. h (rw (q, e)))
 
-  -- rooms with other corners are not b
-  skip-to : (d v : ℕ) → v + d ≤ last → ((u : ℕ) → v ≤ u → u < v + d → cornerAt l u ≡ b .x1 + b .y1 → ⊥)
+  -- rooms with other marks are not b
+  skip-to : (d v : ℕ) → v + d ≤ last → ((u : ℕ) → v ≤ u → u < v + d → cornerAt l u ≡ markOf (b .x1) (b .y1) → ⊥)
       → leafOf (rectIn b) (roomsFrom last (v + d) l) ≡ leafOf (rectIn b) (roomsFrom last v l)
   skip-to zero v h f = let z : v + 0 ≡ v = omega arith in rw z
   skip-to (suc d) v h f =
@@ -170,8 +175,8 @@ module _ (b : HeldRect) (l : List ℕ) (last : ℕ) where
       ∙ leaf-on (rectIn b) l last v false (roomsFrom last v l) (omega arith)
       (box-else v (λ e. f v (omega arith) (omega arith) e)) refl refl)
 
-  -- no room from v on has b's corner
-  pub link-none : (v w : ℕ) (r : List Rect) → v ≤ last → w ≡ 0 → FirstAt l last v (b .x1 + b .y1) w
+  -- no room from v on has the mark of b's corner
+  pub link-none : (v w : ℕ) (r : List Rect) → v ≤ last → w ≡ 0 → FirstAt l last v (markOf (b .x1) (b .y1)) w
       → leafOf (rectIn b) (roomsFrom last v l) ≡ leafOf (rectIn b) r → 0 ≡ leafRoom (leafOf (rectIn b) r)
   link-none v w r h z f inv =
       let e : last ≡ v + (last - v) = omega arith in
@@ -179,7 +184,7 @@ module _ (b : HeldRect) (l : List ℕ) (last : ℕ) where
       ((rw (← e) at (skip-to (last - v) v (omega arith) (λ u a c. f .none-before u a (omega arith) (inl z)))) ∙ inv)
 
   -- the first that does
-  pub link-some : (v w : ℕ) (r : List Rect) → (w ≡ 0 → ⊥) → FirstAt l last v (b .x1 + b .y1) w
+  pub link-some : (v w : ℕ) (r : List Rect) → (w ≡ 0 → ⊥) → FirstAt l last v (markOf (b .x1) (b .y1)) w
       → leafOf (rectIn b) (roomsFrom last v l) ≡ leafOf (rectIn b) r → leafOf (rectIn b) (roomsFrom last w l) ≡ leafOf (rectIn b) r
   link-some v w r z f inv =
       let (a, c, q) = f .there z in
@@ -187,21 +192,21 @@ module _ (b : HeldRect) (l : List ℕ) (last : ℕ) where
       (rw (← e) at (skip-to (w - v) v (omega arith) (λ u i j. f .none-before u i (omega arith) (inr (omega arith))))) ∙ inv
 
   -- from the first
-  pub from-there : (w : ℕ) → 0 < w → FirstAt l last 4 (b .x1 + b .y1) w → RoomAt l last (b .x1 + b .y1) w
+  pub from-there : (w : ℕ) → 0 < w → FirstAt l last 4 (markOf (b .x1) (b .y1)) w → RoomAt l last (markOf (b .x1) (b .y1)) w
   from-there w h f = let (a, c, q) = f .there (λ z. omega arith) in record { lower = a; upper = c; corner = q }
 
   -- the rooms before it are not b
-  pub from-start : (w : ℕ) → 0 < w → FirstAt l last 4 (b .x1 + b .y1) w → leafOf (rectIn b) (roomsFrom last w l) ≡ leafOf (rectIn b) (roomsFrom last 4 l)
+  pub from-start : (w : ℕ) → 0 < w → FirstAt l last 4 (markOf (b .x1) (b .y1)) w → leafOf (rectIn b) (roomsFrom last w l) ≡ leafOf (rectIn b) (roomsFrom last 4 l)
   from-start w h f = link-some 4 w (roomsFrom last 4 l) (λ z. omega arith) f refl
 
   -- on a link: this room is not b, and the next is n
   module _ (w : ℕ) (r : List Rect) (next : List ℕ) (t : Bool) (et : t ≡ sameBox (rectIn b) (rectAt l w)) (e : t ≡ false)
-      (at : RoomAt l last (b .x1 + b .y1) w) (g : Follows l last (b .x1 + b .y1) next) (n : ℕ) (en : n ≡ getD next w 0)
+      (at : RoomAt l last (markOf (b .x1) (b .y1)) w) (g : Follows l last (markOf (b .x1) (b .y1)) next) (n : ℕ) (en : n ≡ getD next w 0)
       (inv : leafOf (rectIn b) (roomsFrom last w l) ≡ leafOf (rectIn b) r) where
     step : leafOf (rectIn b) (roomsFrom last (w + 1) l) ≡ leafOf (rectIn b) r
     step = leaf-on (rectIn b) l last w t r (at .upper) et e inv
 
-    follow : FirstAt l last (w + 1) (b .x1 + b .y1) n
+    follow : FirstAt l last (w + 1) (markOf (b .x1) (b .y1)) n
     follow = let s : w + 1 ≡ suc w = omega arith in rw (s, en) (g w (at .lower) (at .upper) (at .corner))
 
     -- none
@@ -216,21 +221,21 @@ module _ (b : HeldRect) (l : List ℕ) (last : ℕ) where
     pub follow-on : w < n → leafOf (rectIn b) (roomsFrom last n l) ≡ leafOf (rectIn b) r
     follow-on i = link-some (w + 1) n r (λ z. omega arith) follow step
 
-    -- it has that corner too
-    pub follow-there : w < n → RoomAt l last (b .x1 + b .y1) n
+    -- it has that mark too
+    pub follow-there : w < n → RoomAt l last (markOf (b .x1) (b .y1)) n
     follow-there i = let (a, c, y) = follow .there (λ z. omega arith) in record { lower = omega (arith, at .lower); upper = c; corner = y }
 
--- by the links of a corner
-module _ (b : HeldRect) (l : List ℕ) (last : ℕ) (heads next : List ℕ) (d : Linked l last 4 heads next) (x y : ℕ) (ex : x ≡ b .x1) (ey : y ≡ b .y1)
-    (h : x + y < length heads) where
-  -- the first room with b's corner
-  pub by-first : (f z : ℕ) → f ≡ z → z ≡ getD heads (x + y) 0 → FirstAt l last 4 (b .x1 + b .y1) f
-  by-first f z ef ez = rw (ef, ez, ← ex, ← ey) (d .firsts (x + y) h)
+-- by the links of a mark
+module _ (b : HeldRect) (l : List ℕ) (last : ℕ) (heads next : List ℕ) (d : Linked l last 4 heads next) (x : ℕ) (ex : x ≡ markOf (b .x1) (b .y1))
+    (h : x < length heads) where
+  -- the first room with the mark of b's corner
+  pub by-first : (f z : ℕ) → f ≡ z → z ≡ getD heads x 0 → FirstAt l last 4 (markOf (b .x1) (b .y1)) f
+  by-first f z ef ez = rw (ef, ez, ← ex) (d .firsts x h)
 
   -- and each next
-  pub by-follows : Follows l last (b .x1 + b .y1) next
+  pub by-follows : Follows l last (markOf (b .x1) (b .y1)) next
   by-follows u a c q = rw q at (d .follows u a c (omega (arith, q)))
 
   -- none has it
-  pub by-no-room : (f z : ℕ) → f ≡ z → z ≡ getD heads (x + y) 0 → f ≡ 0 → 4 ≤ last → 0 ≡ leafRoom (leafOf (rectIn b) (roomsFrom last 4 l))
+  pub by-no-room : (f z : ℕ) → f ≡ z → z ≡ getD heads x 0 → f ≡ 0 → 4 ≤ last → 0 ≡ leafRoom (leafOf (rectIn b) (roomsFrom last 4 l))
   by-no-room f z ef ez q g = link-none b l last 4 f (roomsFrom last 4 l) g q (by-first f z ef ez) refl

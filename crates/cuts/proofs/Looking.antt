@@ -1,14 +1,15 @@
 -- The rows looked through, and what is found, as the definitions say it. Assumes nothing.
-use Prim.Native.Nat.{ℕ, zero, suc, _+_, _-_, _*_, _/_, _≤_, _<_}
+use Prim.Native.Nat.{ℕ, zero, suc, _+_, _-_, _*_, _≤_, _<_}
 use mathlib.Core.Path.{_≡_, refl, sym, ap, _∙_}
 use mathlib.Core.Bool.{Bool, true, false, cond}
 use mathlib.Core.Option.{Option, none, some}
 use mathlib.Core.List.{List}
-use lib.Dec.{leb}
+use lib.Dec.{ltb, eqb}
 use lib.ListN.{getD}
 use native.Mathlib.Omega.{arith}
-use native.Mathlib.Decide.{decLt}
-use borrow.Author.Tests.{le-leb, lt-leb, lt-ltb, le-ltb}
+use native.Mathlib.Decide.{decLt, ℕ-discrete}
+use borrow.Author.Tests.{ltb-true, eqb-true, lt-ltb, le-ltb, eq-eqb, ne-eqb}
+use Rattle.floor.specs.Lists.Laws.{no-false, and-parts, and-both}
 use Rattle.floor.specs.Plans.{Rect}
 use Rattle.floor.specs.Registers.{Partition}
 use Rattle.floor.specs.Cuts.{Direction, upright, level, Tree, leaf, cut, wayByte, Choice, choice}
@@ -16,47 +17,10 @@ use Rattle.floor.specs.Cuts.ByWalls.{spansBox, wallCut, wallChoice, sameBox, le
 use Rattle.drawing.specs.declared.Rect.{Rect as HeldRect}
 use Rattle.drawing.specs.Rects.{rectIn, rectAt, rectsIn}
 use Rattle.registers.specs.Kept.{wallAt, wallsIn}
-use Rattle.cuts.specs.declared.rows.Range.{Range}
 use Rattle.cuts.specs.declared.Task.the-variants.{Stuck, Leaf, Upright, Level}
-use Rattle.cuts.specs.Rows.{rowNumber, rowReaches, rowCut, Rising, Passed, Halved}
+use Rattle.cuts.specs.Rows.{rowNumber, rowReaches, rowCut, Rising}
+use Rattle.cuts.specs.Orders.{keyOf, rowKey, keyAt, Arranged, Passed, Over}
 use Rattle.cuts.specs.Tasks.{roomsFrom, leafRoom, cutTask, taskOf}
-
--- the half behind the middle, and the half before it
-pub half-behind : (l : List ℕ) (low high bound mid x : ℕ) → low < high → mid ≡ (low + high) / 2 → x ≡ getD l (4 * mid) 0 → x ≤ bound
-    → Halved l low high bound (record { low = mid + 1; high = high })
-unfolding rowNumber
-half-behind l low high bound mid x h em ex k =
-    let z : mid + 1 - 1 ≡ mid = omega arith in record {
-      after = omega arith;
-      before = omega arith;
-      apart = omega arith;
-      fewer = omega arith;
-      passed = λ i. rw (z, ← ex) k;
-    }
-
--- the half before the middle
-pub half-before : (l : List ℕ) (low high bound mid : ℕ) → low < high → mid ≡ (low + high) / 2 → Halved l low high bound (record { low = low; high = mid })
-half-before l low high bound mid h em = record {
-  after = omega arith;
-  before = omega arith;
-  apart = omega arith;
-  fewer = omega arith;
-  passed = λ i. absurd (omega arith);
-}
-
--- no row lies before the first
-pub past-start : (l : List ℕ) (i bound : ℕ) → Passed l i i bound
-past-start l i bound k h j = absurd (omega arith)
-
--- what a half leaves out before it is not over the bound
-pub past-on : (l : List ℕ) (i n low high bound : ℕ) (r : Range) → Rising l i n → i ≤ low → high ≤ n → Passed l i low bound → Halved l low high bound r
-    → Passed l i (r .low) bound
-past-on l i n low high bound r up h g p d k a b = go (decLt k low)
-  where
-    go : Dec (k < low) → rowNumber l k ≤ bound
-    go (yes z) = p k a z
-    go (no z) =
-        omega (arith, up k (r .low - 1) a (omega arith) (omega (arith, d .apart, d .before)), d .passed (omega arith))
 
 -- a row, test by test
 module _ (after before low high : ℕ) (l : List ℕ) (k x : ℕ) (ex : x ≡ getD l (4 * k) 0) where
@@ -70,74 +34,124 @@ module _ (after before low high : ℕ) (l : List ℕ) (k x : ℕ) (ex : x ≡ ge
   unfolding rowReaches
   row-late h g = rw (← ex, lt-ltb after x h, le-ltb x before g)
 
-  -- it begins too late
-  pub row-begins : (y : ℕ) → after < x → x < before → y ≡ getD l (4 * k + 1) 0 → low < y → false ≡ rowReaches after before low high l k
+  -- it begins elsewhere
+  pub row-begins : (y : ℕ) → after < x → x < before → y ≡ getD l (4 * k + 1) 0 → (y ≡ low → ⊥) → false ≡ rowReaches after before low high l k
   unfolding rowReaches
-  row-begins y h g ey j = rw (← ex, lt-ltb after x h, lt-ltb x before g, ← ey, lt-leb y low j)
+  row-begins y h g ey j = rw (← ex, lt-ltb after x h, lt-ltb x before g, ← ey, ne-eqb y low j)
 
   -- and the last test
-  pub row-ends : (y z : ℕ) (t : Bool) → after < x → x < before → y ≡ getD l (4 * k + 1) 0 → y ≤ low → z ≡ getD l (4 * k + 2) 0 → t ≡ leb high z
+  pub row-ends : (y z : ℕ) (t : Bool) → after < x → x < before → y ≡ getD l (4 * k + 1) 0 → y ≡ low → z ≡ getD l (4 * k + 2) 0 → t ≡ eqb z high
       → t ≡ rowReaches after before low high l k
   unfolding rowReaches
-  row-ends y z t h g ey j ez et = rw (← ex, lt-ltb after x h, lt-ltb x before g, ← ey, le-leb y low j, ← ez) et
+  row-ends y z t h g ey j ez et = rw (← ex, lt-ltb after x h, lt-ltb x before g, ← ey, eq-eqb y low j, ← ez) et
 
--- THE SCAN
+-- what the tests say
+record Reaches (after before low high : ℕ) (l : List ℕ) (k : ℕ) : Type 0 where
+  over : after < rowNumber l k
+  under : rowNumber l k < before
+  begins : getD l (4 * k + 1) 0 ≡ low
+  ends : getD l (4 * k + 2) 0 ≡ high
+
+-- keys between two that differ in the number only
+between : (b e x low high y z : ℕ) → e < 65536 → x < 65536 → high < 65536 → y < 65536 → z < 65536 → keyOf low high y < keyOf b e x → keyOf b e x ≤ keyOf low high z
+    → (b ≡ low) × (e ≡ high) × (y < x) × (x ≤ z)
+unfolding keyOf
+between b e x low high y z he hx hh hy hz h g =
+    let p : b * 65536 + e ≡ low * 65536 + high = omega arith in
+    let q : b ≡ low = omega arith in
+    (q, omega arith, omega arith, omega arith)
+
+-- THE FIRST ROW THAT REACHES ACROSS
 module _ (after before low high : ℕ) (l : List ℕ) where
-  -- a row less
-  cut-less : (n k : ℕ) → k < n → rowReaches after before low high l k ≡ false
-      → rowCut after before low high (n - suc k) (suc k) l ≡ rowCut after before low high (n - k) k l
+  -- a row reaches
+  abbrev Yes : ℕ → Type 0
+  Yes k = Reaches after before low high l k
+
+  -- the tests read as facts
+  reaches-of : (k : ℕ) → rowReaches after before low high l k ≡ true → Yes k
+  unfolding rowReaches rowNumber
+  reaches-of k e =
+      let (e₁, h) = and-parts _ (eqb (getD l (4 * k + 2) 0) high) e in
+      let (e₂, g) = and-parts _ (eqb (getD l (4 * k + 1) 0) low) e₁ in
+      let (a, b) = and-parts (ltb after (getD l (4 * k) 0)) (ltb (getD l (4 * k) 0) before) e₂ in
+      record {
+        over = ltb-true after (getD l (4 * k) 0) a;
+        under = ltb-true (getD l (4 * k) 0) before b;
+        begins = eqb-true (getD l (4 * k + 1) 0) low g;
+        ends = eqb-true (getD l (4 * k + 2) 0) high h;
+      }
+
+  -- and the facts as the tests
+  of-reaches : (k : ℕ) → Yes k → rowReaches after before low high l k ≡ true
+  unfolding rowReaches rowNumber
+  of-reaches k r =
+      and-both _ _ (and-both _ _ (and-both _ _ (lt-ltb after (getD l (4 * k) 0) (r .over)) (lt-ltb (getD l (4 * k) 0) before (r .under)))
+      (eq-eqb (getD l (4 * k + 1) 0) low (r .begins))) (eq-eqb (getD l (4 * k + 2) 0) high (r .ends))
+
+  -- none of some rows reaches
+  no-cut : (m k : ℕ) → ((j : ℕ) → k ≤ j → j < k + m → Yes j → ⊥) → 0 ≡ rowCut after before low high m k l
   unfolding rowCut
-  cut-less n k h e = let z : n - k ≡ suc (n - suc k) = omega arith in rw (z, e)
-
-  -- rows not over the first number are left out
-  skip : (d n i : ℕ) → i + d ≤ n → Passed l i (i + d) after → rowCut after before low high (n - (i + d)) (i + d) l ≡ rowCut after before low high (n - i) i l
-  unfolding rowNumber
-  skip zero n i h p = let z : i + 0 ≡ i = omega arith in rw z
-  skip (suc d) n i h p =
-      let z : i + suc d ≡ suc i + d = omega arith in
-      rw z (skip d n (suc i) (omega arith) (λ k a b. p k (omega arith) (omega arith))
-      ∙ cut-less n i (omega arith) (sym (row-early after before low high l i (getD l (4 * i) 0) refl (p i (omega arith) (omega arith)))))
-
-  -- from the first row over it on
-  pub cut-start : (i n k : ℕ) → i ≤ k → k ≤ n → Passed l i k after → rowCut after before low high (n - k) k l ≡ rowCut after before low high (n - i) i l
-  cut-start i n k h g p = let z : k ≡ i + (k - i) = omega arith in rw z (skip (k - i) n i (omega arith) (rw (← z) p))
-
-  -- rows behind one that is not under the second number do not count
-  none-later : (m k : ℕ) → ((j : ℕ) → k ≤ j → j < k + m → before ≤ rowNumber l j) → rowCut after before low high m k l ≡ 0
-  unfolding rowCut rowNumber
-  none-later zero k h = refl
-  none-later (suc m) k h = go (decLt after (getD l (4 * k) 0)) (none-later m (suc k) (λ j a b. h j (omega arith) (omega arith)))
+  no-cut zero k h = refl
+  no-cut (suc m) k h = go (rowReaches after before low high l k) refl (no-cut m (suc k) (λ j a b. h j (omega arith) (omega arith)))
     where
-      go : Dec (after < getD l (4 * k) 0) → rowCut after before low high m (suc k) l ≡ 0
-          → cond (rowReaches after before low high l k) (getD l (4 * k) 0) (rowCut after before low high m (suc k) l) ≡ 0
-      go (yes a) below = rw (← row-late after before low high l k (getD l (4 * k) 0) refl a (h k (omega arith) (omega arith))) below
-      go (no a) below = rw (← row-early after before low high l k (getD l (4 * k) 0) refl (omega arith)) below
+      go : (t : Bool) → rowReaches after before low high l k ≡ t → 0 ≡ rowCut after before low high m (suc k) l
+          → 0 ≡ cond t (getD l (4 * k) 0) (rowCut after before low high m (suc k) l)
+      go true e below = absurd (h k (omega arith) (omega arith) (reaches-of k e))
+      go false e below = below
 
-  -- the scan stops there
-  pub cut-stop : (i n k x r : ℕ) → Rising l i n → i ≤ k → k < n → x ≡ getD l (4 * k) 0 → before ≤ x
-      → rowCut after before low high (n - k) k l ≡ r → 0 ≡ r
-  unfolding rowNumber
-  cut-stop i n k x r up h g ex j inv =
-      sym (none-later (n - k) k (λ a b c. omega (arith, up k a h b (omega arith)))) ∙ inv
+  -- the number of one that reaches, where none that reaches has a lesser and none behind has
+  some-cut : (m k i : ℕ) → k ≤ i → i < k + m → Yes i → ((j : ℕ) → k ≤ j → j < k + m → Yes j → rowNumber l i ≤ rowNumber l j)
+      → ((j : ℕ) → k ≤ j → j ≤ i → rowNumber l j ≤ rowNumber l i) → rowNumber l i ≡ rowCut after before low high m k l
+  unfolding rowCut rowNumber
+  some-cut zero k i a b r h g = absurd (omega arith)
+  some-cut (suc m) k i a b r h g =
+      go (rowReaches after before low high l k) refl (λ c. some-cut m (suc k) i c (omega arith) r (λ j x y. h j (omega arith) (omega arith)) (λ j x y. g j (omega arith) y))
+    where
+      go : (t : Bool) → rowReaches after before low high l k ≡ t → (suc k ≤ i → getD l (4 * i) 0 ≡ rowCut after before low high m (suc k) l)
+          → getD l (4 * i) 0 ≡ cond t (getD l (4 * k) 0) (rowCut after before low high m (suc k) l)
+      go true e below = omega (arith, h k (omega arith) (omega arith) (reaches-of k e), g k (omega arith) a)
+      go false e below = below (later (ℕ-discrete k i))
+        where
+          later : Dec (k ≡ i) → suc k ≤ i
+          later (yes z) = no-false (sym e ∙ of-reaches k (rw z r))
+          later (no z) = omega arith
 
-  -- this wall reaches across
-  pub cut-here : (n k y r : ℕ) (t : Bool) → k < n → t ≡ rowReaches after before low high l k → t ≡ true → y ≡ getD l (4 * k) 0
-      → rowCut after before low high (n - k) k l ≡ r → y ≡ r
-  unfolding rowCut
-  cut-here n k y r t h et e ey inv =
-      let z : n - k ≡ suc (n - suc k) = omega arith in
-      let q : rowReaches after before low high l k ≡ true = sym et ∙ e in
-      ey ∙ (rw (z, q) at inv)
+  -- FOUND IN ORDER: the place p is the first with a key over that of the sides and the first number
+  module _ (o : List ℕ) (i n p bound : ℕ) (small : (k : ℕ) → getD l k 0 < 65536) (ha : after < 65536) (hh : high < 65536) (le : i ≤ n) (up : Rising l i n)
+      (ar : Arranged l o i n) (eb : bound ≡ keyOf low high after) (hp : i ≤ p) (pa : Passed l o i p bound) (ov : Over l o p n bound) where
+    -- a row that reaches does not stand before it, and the row there reaches too, with no greater number
+    first-there : (k : ℕ) → i ≤ k → k < n → Yes k → (p < n) × Yes (getD o p 0) × (rowNumber l (getD o p 0) ≤ rowNumber l k)
+    unfolding keyAt rowKey rowNumber
+    first-there k h g r =
+        let (j, x, y, e) = ar .numbered .every k h g in
+        let q : keyOf (getD l (4 * k + 1) 0) (getD l (4 * k + 2) 0) (getD l (4 * k) 0) ≡ keyOf low high (getD l (4 * k) 0) = rw (r .begins, r .ends) in
+        let c : bound < keyAt l o j = rw (e, q) (unfold keyOf in omega (arith, r .over)) in
+        let d : p ≤ j = behind j x c (decLt j p) in
+        let (b₁, b₂, b₃, b₄) = between (getD l (4 * getD o p 0 + 1) 0) (getD l (4 * getD o p 0 + 2) 0) (getD l (4 * getD o p 0) 0) low high after (getD l (4 * k) 0)
+        (small _) (small _) hh ha (small _) (rw eb at (ov p (omega arith) (omega arith))) (rw (e, q) at (ar .rises p j hp d y)) in
+        (omega arith, record { over = b₃; under = omega (arith, r .under); begins = b₁; ends = b₂ }, b₄)
+      where
+        behind : (j : ℕ) → i ≤ j → bound < keyAt l o j → Dec (j < p) → p ≤ j
+        behind j x c (yes z) = absurd (omega (arith, pa j x z))
+        behind j x c (no z) = omega arith
 
-  -- it does not
-  pub cut-on : (n k r : ℕ) (t : Bool) → k < n → t ≡ rowReaches after before low high l k → t ≡ false
-      → rowCut after before low high (n - k) k l ≡ r → rowCut after before low high (n - (k + 1)) (k + 1) l ≡ r
-  cut-on n k r t h et e inv = let s : k + 1 ≡ suc k = omega arith in rw s (cut-less n k h (sym et ∙ e) ∙ inv)
+    -- there is no such place
+    pub cut-past : n ≤ p → 0 ≡ rowCut after before low high (n - i) i l
+    cut-past h = no-cut (n - i) i (λ k a b r. let (c, d, e) = first-there k a (omega arith) r in omega arith)
 
-  -- no row is left
-  pub cut-none : (n k r : ℕ) → n ≤ k → rowCut after before low high (n - k) k l ≡ r → 0 ≡ r
-  unfolding rowCut
-  cut-none n k r h inv = let z : n - k ≡ 0 = omega arith in rw z at inv
+    module _ (k x : ℕ) (t : Bool) (ek : k ≡ x) (ex : x ≡ getD o p 0) (et : t ≡ rowReaches after before low high l k) (there : p < n) where
+      -- the row there reaches
+      pub cut-found : (y : ℕ) → t ≡ true → y ≡ getD l (4 * k) 0 → y ≡ rowCut after before low high (n - i) i l
+      unfolding rowNumber
+      cut-found y e ey =
+          let q : k ≡ getD o p 0 = ek ∙ ex in
+          let (a, b) = ar .numbered .each p hp there in
+          ey ∙ some-cut (n - i) i k (omega arith) (omega arith) (reaches-of k (sym et ∙ e)) (λ j c d r. rw q (first-there j c (omega arith) r .2)) (λ j c d. up j k c d (omega arith))
+
+      -- it does not
+      pub cut-lost : t ≡ false → 0 ≡ rowCut after before low high (n - i) i l
+      cut-lost e =
+          no-cut (n - i) i (λ j a b r. no-false (sym e ∙ et ∙ ap (rowReaches after before low high l) (ek ∙ ex) ∙ of-reaches (getD o p 0) (first-there j a (omega arith) r .1)))
 
 -- a place, or 0
 placeOf : Option ℕ → ℕ

@@ -24,7 +24,7 @@ use Rattle.cuts.specs.declared.Written.the-variants.{Wrote, TooShort, No
 use Rattle.cuts.specs.Rows.{Rising}
 use Rattle.cuts.specs.Tasks.{roomsFrom}
 use Rattle.cuts.specs.Runs.{treeBytes, SlicedAs, cutTree, replied, writing}
-use Rattle.cuts.proofs.Ordered.{rows-least, ups-rise, levels-rise, kept-read}
+use Rattle.cuts.proofs.Ordered.{rows-least, ups-rise, levels-rise, front-few, kept-read}
 
 -- the rooms are the rectangles from the fifth on
 four-less : (n : ℕ) (l : List ℕ) → drop 4 (rectsIn (n + 4) 0 l) ≡ rectsIn n 4 l
@@ -47,6 +47,11 @@ module _ (n : ℕ) (l : List ℕ) (g : Register) (eg : (w h : ℕ) → g ≡ kep
   read : (w h : ℕ) → wallsIn u many 0 (g .rows) ≡ take walls (keptWalls (planFrom w h n l))
   unfolding registerIn
   read w h = rw (eu, em) (ap registerIn (eg w h) ∙ kept-read (planFrom w h n l))
+
+  -- it has no more than are kept
+  pub few-walls : many ≤ 64
+  unfolding keptRegister
+  few-walls = omega (arith, ap (λ (g : Register). g .many) (eg 0 0), front-few 64 (keptWalls (planFrom 0 0 n l)))
 
   -- the upright rows rise
   pub ups-rising : Rising (g .rows) 0 up

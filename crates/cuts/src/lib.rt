@@ -11,8 +11,9 @@ ghost use Rattle.cuts.specs.Rows.{Rising};
 ghost use Rattle.cuts.specs.Runs.{treeBytes, SlicedAs, cutTree, replied, writing};
 use drawing::Rect;
 
-mod rows; // rows.rt: the walls of the register, looked through
-mod links; // links.rt: the rooms linked by their corners
+mod order; // order.rt: the walls of the register in order of beginning, end and number
+mod rows; // rows.rt: the walls looked through in that order
+mod links; // links.rt: the rooms linked by marks of their corners
 mod look; // look.rt: what is to be done with a rectangle
 mod run; // run.rt: the tree's bytes, rectangle by rectangle
 
@@ -54,11 +55,11 @@ fn noughts() -> [u8; 544]
     [0; 544]
 }
 
-// No room with any of 128 corners.
-fn no_heads() -> [u16; 128]
-    ensures { λ r. ⌜ r ≡ replicate 128 0 ⌝ }
+// No room with any of 127 marks.
+fn no_heads() -> [u16; 127]
+    ensures { λ r. ⌜ r ≡ replicate 127 0 ⌝ }
 {
-    [0; 128]
+    [0; 127]
 }
 
 // No next room, for any vertex.
@@ -99,7 +100,7 @@ fn run_rows<'a>(
     height: u16,
     buf: &mut [u8],
 ) -> Sliced
-    requires { ⌜ (ups ≤ many) × (many < 65536) × Rising (now rows) 0 ups × Rising (now rows) ups many × (length (now buf) ≡ 544) ⌝ }
+    requires { ⌜ (ups ≤ many) × (many ≤ 64) × Rising (now rows) 0 ups × Rising (now rows) ups many × (length (now buf) ≡ 544) ⌝ }
     ensures { λ r. ⌜ SlicedAs r (now (buf .exit)) (capped 60 (treeBy (wallsIn ups many 0 (now (rows .entry)))
         (roomsOf (planFrom width height (rooms + 4) (now (rects .entry)))) (inner (planFrom width height (rooms + 4) (now (rects .entry)))))) ⌝ }
 {
@@ -114,7 +115,8 @@ fn run_rows<'a>(
     let mut heads = no_heads();
     let mut next = no_links();
     links::link_rooms(rects, last, &mut heads, &mut next);
-    run::run(rows, ups, many, rects, last, &heads, &next, b, buf)
+    let order = order::order_of(rows, ups, many);
+    run::run(rows, &order, ups, many, rects, last, &heads, &next, b, buf)
 }
 
 // The bytes of a plan's tree, put to the front of a buffer for them.

@@ -1,10 +1,13 @@
-// The rows of a register, four numbers to a wall, in order of number: which wall reaches across.
+// The rows of a register, four numbers to a wall: which wall runs from side to side, found by halves in an order by beginning, end and number.
 ghost use mathlib.Core.Path.{_≡_};
 ghost use Prim.Native.Nat.{_-_, _≤_, _<_};
 ghost use lib.ListN.{getD};
-ghost use Rattle.cuts.specs.Rows.{rowReaches, rowCut, Rising, Passed, Halved};
+ghost use Rattle.cuts.specs.Rows.{rowReaches, rowCut, Rising};
+ghost use Rattle.cuts.specs.Orders.{Rise, Arranged, Passed, Over, Halved};
+use crate::order::key_at;
+use crate::order::key_of;
 
-// Some rows in a row: the first of them, and the one behind the last.
+// Some places in a row: the first of them, and the one behind the last.
 pub struct Range {
     pub low: usize,
     pub high: usize,
@@ -20,13 +23,13 @@ pub fn number_at(list: &[u16], k: usize) -> u16
     list[k]
 }
 
-// The half of some rows that has the first one with a number over a bound.
-fn halved(rows: &[u16], low: usize, high: usize, bound: u16) -> Range
+// The half of some places that has the first one with a key over a bound, or that it stands behind.
+fn halved<'a>(rows: &'a [u16], order: &'a [u16], low: usize, high: usize, bound: usize) -> Range
     requires { ⌜ (low < high) × (high < 65536) ⌝ }
-    ensures { λ r. ⌜ Halved (now (rows .entry)) low high bound r ⌝ }
+    ensures { λ r. ⌜ Halved (now (rows .entry)) (now (order .entry)) low high bound r ⌝ }
 {
     let mid = (low + high) / 2;
-    if number_at(rows, 4 * mid) <= bound {
+    if key_at(rows, order, mid) <= bound {
         return Range {
             low: mid + 1,
             high: high,
@@ -38,22 +41,23 @@ fn halved(rows: &[u16], low: usize, high: usize, bound: u16) -> Range
     }
 }
 
-// The row from which on numbers are over a bound, found by halves.
-fn first_past(rows: &[u16], i: usize, n: usize, bound: u16) -> usize
-    requires { ⌜ (i ≤ n) × (n < 65536) × Rising (now rows) i n ⌝ }
-    ensures { λ r. ⌜ (i ≤ r) × (r ≤ n) × Passed (now (rows .entry)) i r bound ⌝ }
+// The place from which on keys are over a bound, found by halves.
+fn first_past<'a>(rows: &'a [u16], order: &'a [u16], i: usize, n: usize, bound: usize) -> usize
+    requires { ⌜ (i ≤ n) × (n < 65536) × Rise (now rows) (now order) i n ⌝ }
+    ensures { λ r. ⌜ (i ≤ r) × (r ≤ n) × Passed (now (rows .entry)) (now (order .entry)) i r bound
+        × Over (now (rows .entry)) (now (order .entry)) r n bound ⌝ }
 {
     let mut low: usize = i;
     let mut high: usize = n;
     while low < high {
-        let half = halved(rows, low, high, bound);
+        let half = halved(rows, order, low, high, bound);
         low = half.low;
         high = half.high;
     }
     low
 }
 
-// Whether the wall in a row lies between two numbers, and reaches from one place to the other along its length.
+// Whether the wall in a row lies between two numbers, and begins at one place and ends at another.
 fn reaches_at(rows: &[u16], k: usize, begin: u16, end: u16, low: u16, high: u16) -> bool
     requires { ⌜ k < 65536 ⌝ }
     ensures { λ r. ⌜ r ≡ rowReaches begin end low high (now (rows .entry)) k ⌝ }
@@ -65,26 +69,33 @@ fn reaches_at(rows: &[u16], k: usize, begin: u16, end: u16, low: u16, high: u16)
     if end <= number {
         return false;
     }
-    if low < number_at(rows, 4 * k + 1) {
+    if number_at(rows, 4 * k + 1) != low {
         return false;
     }
-    high <= number_at(rows, 4 * k + 2)
+    number_at(rows, 4 * k + 2) == high
 }
 
-// The number of the first wall, of those from row i to before row n, that does; 0 where none does. Only rows with numbers between are looked at.
-pub fn wall_cut(rows: &[u16], i: usize, n: usize, begin: u16, end: u16, low: u16, high: u16) -> u16
-    requires { ⌜ (i ≤ n) × (n < 65536) × Rising (now rows) i n ⌝ }
+// The number of the first wall, of those from row i to before row n, that does; 0 where none does.
+pub fn wall_cut<'a>(
+    rows: &'a [u16],
+    order: &'a [u16],
+    i: usize,
+    n: usize,
+    begin: u16,
+    end: u16,
+    low: u16,
+    high: u16,
+) -> u16
+    requires { ⌜ (i ≤ n) × (n < 65536) × Rising (now rows) i n × Arranged (now rows) (now order) i n ⌝ }
     ensures { λ r. ⌜ r ≡ rowCut begin end low high (n - i) i (now (rows .entry)) ⌝ }
 {
-    let mut k: usize = first_past(rows, i, n, begin);
-    while k < n {
-        if end <= number_at(rows, 4 * k) {
-            return 0;
-        }
-        if reaches_at(rows, k, begin, end, low, high) {
-            return number_at(rows, 4 * k);
-        }
-        k += 1;
+    let at = first_past(rows, order, i, n, key_of(low, high, begin));
+    if n <= at {
+        return 0;
+    }
+    let k = fields::number(number_at(order, at));
+    if reaches_at(rows, k, begin, end, low, high) {
+        return number_at(rows, 4 * k);
     }
     0
 }

@@ -7,6 +7,7 @@ ghost use Rattle.drawing.specs.Rects.{rectIn};
 ghost use Rattle.floor.specs.Cuts.ByWalls.{treeBy, capped};
 ghost use Rattle.registers.specs.Kept.{wallsIn};
 ghost use Rattle.cuts.specs.Rows.{Rising};
+ghost use Rattle.cuts.specs.Orders.{Arranged};
 ghost use Rattle.cuts.specs.Tasks.{roomsFrom};
 ghost use Rattle.cuts.specs.Links.{Linked};
 ghost use Rattle.cuts.specs.Runs.{actOf, actBytes, SlicedAs};
@@ -119,6 +120,7 @@ fn filled(b: Rect) -> [Rect; 136]
 // The bytes of the tree of b by its walls, put to the front of a buffer for the tree of sixty rooms.
 pub fn run<'a>(
     rows: &'a [u16],
+    order: &'a [u16],
     ups: usize,
     many: usize,
     rects: &'a [u16],
@@ -129,7 +131,8 @@ pub fn run<'a>(
     buf: &mut [u8],
 ) -> Sliced
     requires { ⌜ (ups ≤ many) × (many < 65536) × (last < 65536) × (4 ≤ last) × Rising (now rows) 0 ups × Rising (now rows) ups many
-        × Linked (now rects) last 4 (now heads) (now next) × (length (now buf) ≡ 544) ⌝ }
+        × Arranged (now rows) (now order) 0 ups × Arranged (now rows) (now order) ups many
+        × (length (now heads) ≡ 127) × Linked (now rects) last 4 (now heads) (now next) × (length (now buf) ≡ 544) ⌝ }
     ensures { λ r. ⌜ SlicedAs r (now (buf .exit))
         (capped 60 (treeBy (wallsIn ups many 0 (now (rows .entry))) (roomsFrom last 4 (now (rects .entry))) (rectIn b))) ⌝ }
 {
@@ -142,7 +145,7 @@ pub fn run<'a>(
         }
         let top = waiting - 1;
         let here = stack[top];
-        let task = crate::look::look(rows, ups, many, rects, last, heads, next, here);
+        let task = crate::look::look(rows, order, ups, many, rects, last, heads, next, here);
         let act = act_of(task, here);
         if act.bytes == 0 {
             return Sliced::No;

@@ -1,4 +1,4 @@
-use Rattle.cuts.proofs.Writing.{ups-rising, levels-rising, register-run}
+use Rattle.cuts.proofs.Writing.{few-walls, ups-rising, levels-rising, register-run}
 use borrow.Author.Needs.{needs}
 use Rattle.cuts.proofs.run_plan.Statement.{statement}
 use Rattle.cuts.proofs.run_plan.Tie as tie
@@ -18,7 +18,7 @@ fewer-requires c κs = search needs
 run-rows-requires : tie.Need-run-rows-requires
 run-rows-requires c κs = (
   search needs,
-  search needs,
+  few-walls _ _ _ (c .before .before .before .before .before .before .before .register-of .ensures) _ _ _ (c .before .before .before .before .before .number2 .ensures .0) (c .before .before .before .before .before .before .number .ensures .0) (c .before .before .before .before .fewer .ensures),
   ups-rising _ _ _ (c .before .before .before .before .before .before .before .register-of .ensures) _ _ _ (c .before .before .before .before .before .number2 .ensures .0) (c .before .before .before .before .before .before .number .ensures .0) (c .before .before .before .before .fewer .ensures),
   levels-rising _ _ _ (c .before .before .before .before .before .before .before .register-of .ensures) _ _ _ (c .before .before .before .before .before .number2 .ensures .0) (c .before .before .before .before .before .before .number .ensures .0) (c .before .before .before .before .fewer .ensures),
   search needs,

@@ -30,14 +30,32 @@ slice-aggregate-link-rooms-2 c = search needs
 link-rooms-requires : tie.Need-link-rooms-requires
 link-rooms-requires c κs = search needs
 
+order-of-requires : tie.Need-order-of-requires
+order-of-requires c κs = search needs
+
 slice-aggregate-run : tie.Need-slice-aggregate-run
 slice-aggregate-run c = search needs
 
 slice-aggregate-run-2 : tie.Need-slice-aggregate-run-2
 slice-aggregate-run-2 c = search needs
 
+slice-aggregate-run-3 : tie.Need-slice-aggregate-run-3
+slice-aggregate-run-3 c = search needs
+
 run-requires : tie.Need-run-requires
-run-requires c κs = search needs
+run-requires c κs = (
+  search needs,
+  search needs,
+  search needs,
+  search needs,
+  c .before .before .before .before .before .before .before .before .before .before .before .before .before .before .before .before .before .before .pre .2,
+  c .before .before .before .before .before .before .before .before .before .before .before .before .before .before .before .before .before .before .pre .3,
+  c .before .before .before .before .order-of .ensures .0,
+  c .before .before .before .before .order-of .ensures .1,
+  search needs,
+  c .before .before .before .before .before .before .before .link-rooms .ensures,
+  search needs,
+)
 
 same-length : tie.Need-same-length
 same-length c = search needs
@@ -58,8 +76,10 @@ run-rows-spec =
     slice-aggregate-link-rooms
     slice-aggregate-link-rooms-2
     link-rooms-requires
+    order-of-requires
     slice-aggregate-run
     slice-aggregate-run-2
+    slice-aggregate-run-3
     run-requires
     same-length
     returns)

@@ -20,7 +20,7 @@ use Rattle.floor.specs.Cuts.Bytes.{tree-bytes}
 use Rattle.floor.specs.Registers.{register}
 use Rattle.floor.specs.Cuts.ByWalls.{treeBy, capped}
 use Rattle.floor.specs.Cuts.Spanned.{tree-by-walls}
-use Rattle.floor.specs.Cuts.Held.{rooms-count, rooms-fill, room-number, room-once}
+use Rattle.floor.specs.Cuts.Held.{rooms-count, rooms-fill, corners-apart, room-number, room-once}
 use Rattle.floor.specs.Calls.{holding, slices, writesCuts, refusal, says, refuse, asks, writes, writesTree, step}
 use Rattle.floor.specs.Calls.Sound.{Sound, some-room, sound-good, sound-thin}
 use Rattle.floor.specs.Calls.Bytes.{limits}
@@ -100,7 +100,7 @@ module _ (j : Job) (p : Plan) (s : Sound j p) where
 
   -- THE TREE BY THE WALLS of the plan's register is the plan's tree, and none of a tree with room for as many leaves as there are rooms is cut off
   pub held-by-walls : treeBy (register p) (roomsOf p) (inner p) ≡ planTree p
-  held-by-walls = tree-by-walls p held-fill
+  held-by-walls = tree-by-walls p held-fill (corners-apart j (s .passes) p (sound-good j p s) (sound-thin j p s))
 
   pub held-capped : (n : ℕ) → length j ≤ n → capped n (treeBy (register p) (roomsOf p) (inner p)) ≡ planTree p
   unfolding capped

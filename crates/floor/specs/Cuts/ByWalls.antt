@@ -1,4 +1,5 @@
--- THE TREE BY THE WALLS OF A REGISTER: a straight cut across a rectangle is one wall that spans it from side to side. Of any walls and rooms. Assumes nothing.
+-- THE TREE BY THE WALLS OF A REGISTER: a straight cut across a rectangle is one wall that runs from side to side of it, no farther. Of any walls and rooms.
+-- Assumes nothing.
 use Prim.Native.Nat.{ℕ, zero, suc, _≤_, _<_}
 use mathlib.Core.Path.{_≡_, refl, sym, ap, _∙_}
 use mathlib.Core.Bool.{Bool, true, false, cond, _&&_, _||_}
@@ -8,7 +9,7 @@ use mathlib.Core.List.{List, [], _∷_, List·Memᴰ, List·Memᴰ·head, List·
 use lib.ListN.{length}
 use lib.Dec.{leb, ltb, eqb}
 use native.Mathlib.Omega.{arith}
-use borrow.Author.Tests.{leb-true, ltb-true, eqb-true, le-leb, lt-ltb, eq-eqb}
+use borrow.Author.Tests.{ltb-true, eqb-true, lt-ltb, eq-eqb}
 use Rattle.floor.specs.Lists.{pairwise}
 use Rattle.floor.specs.Lists.Laws.{no-false, and-parts, and-both, or-cases, all-mem}
 use Rattle.floor.specs.Plans.{Rect}
@@ -21,11 +22,11 @@ abbrev pub other : Direction → Direction
 other upright = level
 other level = upright
 
--- wall w lies strictly inside b, and reaches from one side of it to the other
+-- wall w lies strictly inside b, and begins at one side of it and ends at the other
 unfoldable pub spansBox : Direction → Rect → Partition → Bool
 spansBox a b w =
-    eqb (w .direction) (wayByte a) && ltb (begin a b) (w .number) && ltb (w .number) (end a b) && leb (w .begins) (begin (other a) b)
-    && leb (end (other a) b) (w .ends)
+    eqb (w .direction) (wayByte a) && ltb (begin a b) (w .number) && ltb (w .number) (end a b) && eqb (w .begins) (begin (other a) b)
+    && eqb (w .ends) (end (other a) b)
 
 -- THE CUT BY WALLS: the number of the first wall that spans b
 unfoldable pub wallCut : Direction → Rect → List Partition → Option ℕ
@@ -70,23 +71,23 @@ pub record Spans (a : Direction) (b : Rect) (w : Partition) : Type 0 where
   pub is-way : w .direction ≡ wayByte a
   pub after : begin a b < w .number
   pub before : w .number < end a b
-  pub begins-by : w .begins ≤ begin (other a) b
-  pub ends-by : end (other a) b ≤ w .ends
+  pub is-begin : w .begins ≡ begin (other a) b
+  pub is-end : w .ends ≡ end (other a) b
 
 -- the test read as facts
 pub spans-of : (a : Direction) (b : Rect) (w : Partition) → spansBox a b w ≡ true → Spans a b w
 unfolding spansBox
 spans-of a b w e =
-    let (e₁, k) = and-parts _ (leb (end (other a) b) (w .ends)) e in
-    let (e₂, h) = and-parts _ (leb (w .begins) (begin (other a) b)) e₁ in
+    let (e₁, k) = and-parts _ (eqb (w .ends) (end (other a) b)) e in
+    let (e₂, h) = and-parts _ (eqb (w .begins) (begin (other a) b)) e₁ in
     let (e₃, g) = and-parts _ (ltb (w .number) (end a b)) e₂ in
     let (d, f) = and-parts (eqb (w .direction) (wayByte a)) (ltb (begin a b) (w .number)) e₃ in
     record {
       is-way = eqb-true (w .direction) (wayByte a) d;
       after = ltb-true (begin a b) (w .number) f;
       before = ltb-true (w .number) (end a b) g;
-      begins-by = leb-true (w .begins) (begin (other a) b) h;
-      ends-by = leb-true (end (other a) b) (w .ends) k;
+      is-begin = eqb-true (w .begins) (begin (other a) b) h;
+      is-end = eqb-true (w .ends) (end (other a) b) k;
     }
 
 -- and the facts as the test
@@ -94,7 +95,7 @@ pub of-spans : (a : Direction) (b : Rect) (w : Partition) → Spans a b w → sp
 unfolding spansBox
 of-spans a b w s =
     and-both _ _ (and-both _ _ (and-both _ _ (and-both _ _ (eq-eqb (w .direction) (wayByte a) (s .is-way)) (lt-ltb (begin a b) (w .number) (s .after)))
-    (lt-ltb (w .number) (end a b) (s .before))) (le-leb (w .begins) (begin (other a) b) (s .begins-by))) (le-leb (end (other a) b) (w .ends) (s .ends-by))
+    (lt-ltb (w .number) (end a b) (s .before))) (eq-eqb (w .begins) (begin (other a) b) (s .is-begin))) (eq-eqb (w .ends) (end (other a) b) (s .is-end))
 
 -- a cut is the number of a wall that spans
 pub cut-wall : (a : Direction) (b : Rect) (ws : List Partition) (c : ℕ) → wallCut a b ws ≡ some c

@@ -16,6 +16,7 @@ use Rattle.floor.specs.Floor.Inner.{Thin, Inner, inner-room}
 use Rattle.floor.specs.Cuts.{holds, Within, Fills, roomsOf, inner}
 use Rattle.floor.specs.Cuts.Keeping.{count-one}
 use Rattle.floor.specs.Cuts.Filled.{holds-cell, cell-holds}
+use Rattle.floor.specs.Cuts.Spanned.{CornersApart}
 
 module _ (j : Job) (ok : Passes j) (p : Plan) (good : GoodPlan j p) (thin : Thin p) where
   -- the room at place i has at least a cell, and lies inside the frame
@@ -74,6 +75,36 @@ module _ (j : Job) (ok : Passes j) (p : Plan) (good : GoodPlan j p) (thin : Thin
         within = λ r m. let (i, l, q) = getD-mem (roomsOf p) r nowhere m in rw (sym q ∙ room-at i) (room-within i (omega (arith, rooms-count)));
         once = once;
       }
+
+  -- a room by its vertex, solid
+  room-of : (r : Rect) → List·Memᴰ r (roomsOf p) → (i : ℕ) × (i < length j) × (rectOf p (4 + i) ≡ r) × Within (inner p) r
+  room-of r m =
+      let (i, l, q) = getD-mem (roomsOf p) r nowhere m in
+      let e : rectOf p (4 + i) ≡ r = sym (room-at i) ∙ q in
+      (i, omega (arith, rooms-count), e, rw e at (room-within i (omega (arith, rooms-count))))
+
+  -- NO FOUR ROOMS HAVE A CORNER AT ONE POINT
+  pub corners-apart : CornersApart p
+  corners-apart x y q r s t mq mr ms mt eq er es et =
+      let (a, ha, qa, wa) = room-of q mq in
+      let (b, hb, qb, wb) = room-of r mr in
+      let (c, hc, qc, wc) = room-of s ms in
+      let (d, hd, qd, wd) = room-of t mt in
+      let no : (u v : ℕ) (g : Rect → ℕ) (m n : Rect) → rectOf p (4 + u) ≡ m → rectOf p (4 + v) ≡ n → (g m ≡ g n → ⊥) → 4 + u ≡ 4 + v → ⊥
+      = λ u v g m n e f h k. h (ap g (sym e ∙ ap (rectOf p) k ∙ f)) in
+      good .floor .no-four x y (4 + a) (4 + b) (4 + c) (4 + d) (omega arith) (omega arith) (omega arith) (omega arith)
+      (record {
+        ab = no a b (λ m. m .x2) q r qa qb (λ k. omega (arith, eq .0, er .0, wb .wide));
+        ac = no a c (λ m. m .y2) q s qa qc (λ k. omega (arith, eq .1, es .1, wc .tall));
+        ad = no a d (λ m. m .x2) q t qa qd (λ k. omega (arith, eq .0, et .0, wd .wide));
+        bc = no b c (λ m. m .x1) r s qb qc (λ k. omega (arith, er .0, es .0, wc .wide));
+        bd = no b d (λ m. m .y2) r t qb qd (λ k. omega (arith, er .1, et .1, wd .tall));
+        cd = no c d (λ m. m .x2) s t qc qd (λ k. omega (arith, es .0, et .0, wd .wide));
+      })
+      (rw qa (record { left = omega (arith, eq .0, wa .wide); right = omega (arith, eq .0); lower = omega (arith, eq .1, wa .tall); upper = omega (arith, eq .1) }))
+      (rw qb (record { left = omega (arith, er .0); right = omega (arith, er .0, wb .wide); lower = omega (arith, er .1, wb .tall); upper = omega (arith, er .1) }))
+      (rw qc (record { left = omega (arith, es .0, wc .wide); right = omega (arith, es .0); lower = omega (arith, es .1); upper = omega (arith, es .1, wc .tall) }))
+      (rw qd (record { left = omega (arith, et .0); right = omega (arith, et .0, wd .wide); lower = omega (arith, et .1); upper = omega (arith, et .1, wd .tall) }))
 
   -- no room's number is over n + 3
   pub room-number : (r : Rect) → List·Memᴰ r (roomsOf p) → r .vertex < length j + 4

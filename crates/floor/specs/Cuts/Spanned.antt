@@ -1,5 +1,5 @@
--- In a plan whose rooms fill the rectangle inside the frame, the straight cuts of a part are the walls of the register that span it: the tree by walls is the
--- plan's tree. Assumes nothing.
+-- In a plan whose rooms fill the rectangle inside the frame, no four of them at a point, the straight cuts of a part are the walls of the register that run
+-- from side to side of it and no farther, since walls never cross: the tree by walls is the plan's tree. Assumes nothing.
 use Prim.Native.Nat.{ℕ, zero, suc, _-_, _≤_, _<_}
 use mathlib.Core.Path.{_≡_, refl, sym, ap, _∙_}
 use mathlib.Core.Logic.{_⊎_, inl, inr}
@@ -10,7 +10,7 @@ use mathlib.Core.List.{List·Memᴰ·append-cases}
 use lib.ListN.{length, getD}
 use lib.Dec.{eqb}
 use native.Mathlib.Omega.{arith}
-use native.Mathlib.Decide.{decLe}
+use native.Mathlib.Decide.{decLe, decLt}
 use borrow.Author.Tests.{eqb-true, eq-eqb}
 use Rattle.floor.specs.Lists.{keep, pairwise, upFrom}
 use Rattle.floor.specs.Lists.Laws.{no-false, and-parts, and-both, bit, count, count-cons, count-some, mem-keep, mem-getD, getD-mem, upFrom-mem}
@@ -19,8 +19,8 @@ use Rattle.floor.specs.Plans.{Rect, Plan, nowhere}
 use Rattle.floor.specs.Floor.{Cell}
 use Rattle.floor.specs.Registers.{Stretch, lowSide, highSide, wideOf, longOf, Partition, earlier, roomSides, built, starts, endFrom, partition}
 use Rattle.floor.specs.Registers.{registerOf, register}
-use Rattle.floor.specs.Registers.Lines.{end-far, built-to, built-some, some-built, begin-of}
-use Rattle.floor.specs.Registers.Right.{sides-mem, mem-low, walls-mem, mem-walls, lines-order, earlier-direction}
+use Rattle.floor.specs.Registers.Lines.{end-is, built-to, built-some, some-built, not-built, begin-of}
+use Rattle.floor.specs.Registers.Right.{sides-mem, mem-low, mem-high, walls-mem, mem-walls, lines-order, earlier-direction}
 use Rattle.floor.specs.Cuts.{Direction, upright, level, begin, end, holds, Within, Fills, Beside, Cut, lowBox, highBox, lowPart, highPart, leaf}
 use Rattle.floor.specs.Cuts.{firstCut, Choice, noCut, takes, chosen, divided, span, treeOf, wayByte, roomsOf, inner, planTree}
 use Rattle.floor.specs.Cuts.Filled.{holds-cell, cell-holds, within-long, low-mem, high-mem, fills-low, fills-high, fills-some}
@@ -102,7 +102,17 @@ unfolding highSide wayByte
 high-is upright r = (refl, refl, refl)
 high-is level r = (refl, refl, refl)
 
-module _ (p : Plan) (f : Fills (inner p) (roomsOf p)) where
+-- a rectangle with a room in each of its cells is some cells long
+fills-long : (a : Direction) (b : Rect) (rs : List Rect) → Fills b rs → begin a b < end a b
+fills-long upright b rs f = f .wide
+fills-long level b rs f = f .tall
+
+-- no four rooms of a plan have a corner at one point
+abbrev pub CornersApart : Plan → Type 0
+CornersApart p = (x y : ℕ) (q r s t : Rect) → List·Memᴰ q (roomsOf p) → List·Memᴰ r (roomsOf p) → List·Memᴰ s (roomsOf p) → List·Memᴰ t (roomsOf p)
+    → (q .x2 ≡ x) × (q .y2 ≡ y) → (r .x1 ≡ x) × (r .y2 ≡ y) → (s .x2 ≡ x) × (s .y1 ≡ y) → (t .x1 ≡ x) × (t .y1 ≡ y) → ⊥
+
+module _ (p : Plan) (f : Fills (inner p) (roomsOf p)) (apart : CornersApart p) where
   -- the room sides of a direction
   abbrev S : Direction → List Stretch
   S a = roomSides (wayByte a) p
@@ -127,6 +137,14 @@ module _ (p : Plan) (f : Fills (inner p) (roomsOf p)) where
       let (i, n, q) = getD-mem (roomsOf p) r nowhere m in
       let (x, y, z) = low-is a r in
       some-built (S a) (begin a r) k (lowSide (wayByte a) r) (rw q at (mem-low (wayByte a) (roomsOf p) i n)) x (omega arith) (omega arith)
+
+  -- a room's upper side, built
+  high-built : (a : Direction) (r : Rect) (k : ℕ) → List·Memᴰ r (roomsOf p) → begin (other a) r ≤ k → k < end (other a) r → built (S a) (end a r) k ≡ true
+  unfolding roomSides roomsOf
+  high-built a r k m l h =
+      let (i, n, q) = getD-mem (roomsOf p) r nowhere m in
+      let (x, y, z) = high-is a r in
+      some-built (S a) (end a r) k (highSide (wayByte a) r) (rw q at (mem-high (wayByte a) (roomsOf p) i n)) x (omega arith) (omega arith)
 
   -- what is built is a room's side
   built-room : (a : Direction) (c k : ℕ) → built (S a) c k ≡ true
@@ -171,37 +189,127 @@ module _ (p : Plan) (f : Fills (inner p) (roomsOf p)) where
       at r x (inl g) = absurd (omega (arith, x .before))
       at r x (inr g) = omega (arith, x .after)
 
-  -- AND THE OTHER WAY: a room that the line passed through would share a cell with the room whose side is built
-  built-cut : (a : Direction) (c : ℕ) (b : Rect) (rs : List Rect) → Part b rs → begin a b < c → c < end a b → Across a c b → Cut a c b rs
-  built-cut a c b rs t l h all = record { after = l; before = h; clear = λ r m. go r m (decLe (end a r) c) (decLe c (begin a r)) }
+  -- WHERE A LINE IS BUILT IT PASSES BESIDE EVERY ROOM: one that it passed through would share a cell with the room whose side is built
+  built-beside : (a : Direction) (c k : ℕ) (r : Rect) → built (S a) c k ≡ true → List·Memᴰ r (roomsOf p) → begin (other a) r ≤ k → k < end (other a) r → Beside a c r
+  built-beside a c k r e m i j = go (decLe (end a r) c) (decLe c (begin a r))
     where
-      through : (r : Rect) → List·Memᴰ r rs → begin a r < c → c < end a r → ⊥
-      through r m u v =
-          let (x, y, z) = within-long (other a) b r (t .fills .within r m) in
-          let (q, n, w, i, j) = built-room a c (begin (other a) r) (all (begin (other a) r) y (omega arith)) in
-          two q n w i j x
-        where
-          two : (q : Rect) → List·Memᴰ q (roomsOf p) → (begin a q ≡ c) ⊎ (end a q ≡ c) → begin (other a) q ≤ begin (other a) r
-              → begin (other a) r < end (other a) q → begin (other a) r < end (other a) r → ⊥
-          two q n (inl w) i j x =
-              let (x′, y′, z′) = within-long a (inner p) q (f .within q n) in
-              let g : Covers a r c (begin (other a) r) = record { after = omega arith; before = v; begins = omega arith; ends = x } in
-              let e : q ≡ r = one-there a (inner p) (roomsOf p) c (begin (other a) r) q r f
-              (covers-within a (inner p) r c (begin (other a) r) (f .within r (t .ours r m)) g) n (t .ours r m)
-              (record { after = omega arith; before = omega arith; begins = i; ends = j }) g in
-              omega (arith, ap (begin a) e)
-          two q n (inr w) i j x =
-              let (x′, y′, z′) = within-long a (inner p) q (f .within q n) in
-              let g : Covers a r (c - 1) (begin (other a) r) = record { after = omega arith; before = omega arith; begins = omega arith; ends = x } in
-              let e : q ≡ r = one-there a (inner p) (roomsOf p) (c - 1) (begin (other a) r) q r f
-              (covers-within a (inner p) r (c - 1) (begin (other a) r) (f .within r (t .ours r m)) g) n (t .ours r m)
-              (record { after = omega arith; before = omega arith; begins = i; ends = j }) g in
-              omega (arith, ap (end a) e)
+      two : (q : Rect) → List·Memᴰ q (roomsOf p) → (begin a q ≡ c) ⊎ (end a q ≡ c) → begin (other a) q ≤ k → k < end (other a) q → begin a r < c → c < end a r → ⊥
+      two q n (inl w) g h u v =
+          let (x, y, z) = within-long a (inner p) q (f .within q n) in
+          let d : Covers a r c k = record { after = omega arith; before = v; begins = i; ends = j } in
+          let o : q ≡ r = one-there a (inner p) (roomsOf p) c k q r f (covers-within a (inner p) r c k (f .within r m) d) n m
+          (record { after = omega arith; before = omega arith; begins = g; ends = h }) d in
+          omega (arith, ap (begin a) o)
+      two q n (inr w) g h u v =
+          let (x, y, z) = within-long a (inner p) q (f .within q n) in
+          let d : Covers a r (c - 1) k = record { after = omega arith; before = omega arith; begins = i; ends = j } in
+          let o : q ≡ r = one-there a (inner p) (roomsOf p) (c - 1) k q r f (covers-within a (inner p) r (c - 1) k (f .within r m) d) n m
+          (record { after = omega arith; before = omega arith; begins = g; ends = h }) d in
+          omega (arith, ap (end a) o)
 
-      go : (r : Rect) → List·Memᴰ r rs → Dec (end a r ≤ c) → Dec (c ≤ begin a r) → Beside a c r
-      go r m (yes u) v = inl u
-      go r m (no u) (yes v) = inr v
-      go r m (no u) (no v) = absurd (through r m (omega arith) (omega arith))
+      go : Dec (end a r ≤ c) → Dec (c ≤ begin a r) → Beside a c r
+      go (yes u) v = inl u
+      go (no u) (yes v) = inr v
+      go (no u) (no v) = let (q, n, w, g, h) = built-room a c k e in absurd (two q n w g h (omega arith) (omega arith))
+
+  -- AND THE OTHER WAY: a line built from side to side is a straight cut
+  built-cut : (a : Direction) (c : ℕ) (b : Rect) (rs : List Rect) → Part b rs → begin a b < c → c < end a b → Across a c b → Cut a c b rs
+  built-cut a c b rs t l h all = record {
+    after = l;
+    before = h;
+    clear = λ r m.
+        let (x, y, z) = within-long (other a) b r (t .fills .within r m) in
+        built-beside a c (begin (other a) r) r (all (begin (other a) r) y (omega arith)) (t .ours r m) (omega arith) x;
+  }
+
+  -- the room before a line that is built ends there
+  ends-there : (a : Direction) (c c′ k : ℕ) (r : Rect) → c′ ≡ suc c → built (S a) c′ k ≡ true → List·Memᴰ r (roomsOf p) → Covers a r c k → end a r ≡ c′
+  ends-there a c c′ k r e u m h = go (built-beside a c′ k r u m (h .begins) (h .ends))
+    where
+      go : Beside a c′ r → end a r ≡ c′
+      go (inl g) = omega (arith, h .before)
+      go (inr g) = absurd (omega (arith, h .after))
+
+  -- the room behind it begins there
+  begins-there : (a : Direction) (c k : ℕ) (r : Rect) → built (S a) c k ≡ true → List·Memᴰ r (roomsOf p) → Covers a r c k → begin a r ≡ c
+  begins-there a c k r u m h = go (built-beside a c k r u m (h .begins) (h .ends))
+    where
+      go : Beside a c r → begin a r ≡ c
+      go (inl g) = absurd (omega (arith, h .before))
+      go (inr g) = omega (arith, h .after)
+
+  -- lines are built inside the frame only
+  built-inside : (a : Direction) (c k : ℕ) → built (S a) c k ≡ true → (begin (other a) (inner p) ≤ k) × (k < end (other a) (inner p))
+  built-inside a c k u =
+      let (r, m, w, i, j) = built-room a c k u in
+      let (x, y, z) = within-long (other a) (inner p) r (f .within r m) in
+      (omega arith, omega arith)
+
+  -- a cell that is covered, seen the other way
+  seen : (r : Rect) (x y : ℕ) → Covers upright r x y → Covers level r y x
+  seen r x y h = record { after = h .begins; before = h .ends; begins = h .after; ends = h .before }
+
+  -- TWO WALLS NEVER CROSS: the four rooms round the point would have a corner there
+  no-cross : (x y x′ y′ : ℕ) → x′ ≡ suc x → y′ ≡ suc y → built (S upright) x′ y ≡ true → built (S upright) x′ y′ ≡ true → built (S level) y′ x ≡ true
+      → built (S level) y′ x′ ≡ true → ⊥
+  no-cross x y x′ y′ ex ey u u′ l l′ =
+      let (q, mq, cq) = room x y (omega arith) (omega arith) (omega arith) (omega arith) in
+      let (r, mr, cr) = room x′ y (omega arith) (omega arith) (omega arith) (omega arith) in
+      let (s, ms, cs) = room x y′ (omega arith) (omega arith) (omega arith) (omega arith) in
+      let (t, mt, ct) = room x′ y′ (omega arith) (omega arith) (omega arith) (omega arith) in
+      apart x′ y′ q r s t mq mr ms mt
+      (ends-there upright x x′ y q ex u mq cq, ends-there level y y′ x q ey l mq (seen q x y cq))
+      (begins-there upright x′ y r u mr cr, ends-there level y y′ x′ r ey l′ mr (seen r x′ y cr))
+      (ends-there upright x x′ y′ s ex u′ ms cs, begins-there level y′ x s l ms (seen s x y′ cs))
+      (begins-there upright x′ y′ t u′ mt ct, begins-there level y′ x′ t l′ mt (seen t x′ y′ ct))
+    where
+      room : (c k : ℕ) → x ≤ c → c ≤ x′ → y ≤ k → k ≤ y′ → (r : Rect) × List·Memᴰ r (roomsOf p) × Covers upright r c k
+      room c k g h i j =
+          room-there upright (inner p) (roomsOf p) c k f (record {
+            after = omega (arith, built-inside level y′ x l .0);
+            before = omega (arith, built-inside level y′ x′ l′ .1);
+            begins = omega (arith, built-inside upright x′ y u .0);
+            ends = omega (arith, built-inside upright x′ y′ u′ .1);
+          })
+
+  -- the lower side of a part is built
+  low-edge : (a : Direction) (b : Rect) (rs : List Rect) (k : ℕ) → Part b rs → begin (other a) b ≤ k → k < end (other a) b → built (S a) (begin a b) k ≡ true
+  low-edge a b rs k t l h =
+      let (r, m, x) = room-there a b rs (begin a b) k (t .fills) (record { after = omega arith; before = fills-long a b rs (t .fills); begins = l; ends = h }) in
+      let (u, v, w) = within-long a b r (t .fills .within r m) in
+      let e : begin a r ≡ begin a b = omega (arith, x .after) in
+      rw e at (low-built a r k (t .ours r m) (x .begins) (x .ends))
+
+  -- and its upper side
+  high-edge : (a : Direction) (b : Rect) (rs : List Rect) (k : ℕ) → Part b rs → begin (other a) b ≤ k → k < end (other a) b → built (S a) (end a b) k ≡ true
+  high-edge a b rs k t l h =
+      let g : begin a b < end a b = fills-long a b rs (t .fills) in
+      let (r, m, x) = room-there a b rs (end a b - 1) k (t .fills) (record { after = omega arith; before = omega arith; begins = l; ends = h }) in
+      let (u, v, w) = within-long a b r (t .fills .within r m) in
+      let e : end a r ≡ end a b = omega (arith, x .before) in
+      rw e at (high-built a r k (t .ours r m) (x .begins) (x .ends))
+
+  -- SO A WALL ALONG A CUT does not come from beyond the part
+  not-before : (a : Direction) (c : ℕ) (b : Rect) (rs : List Rect) (k : ℕ) → Part b rs → Cut a c b rs → begin (other a) b ≡ suc k → built (S a) c k ≡ true → ⊥
+  not-before upright c b rs k t d e u =
+      no-cross (c - 1) k c (b .y1) (omega (arith, d .after)) e u (cut-built upright c b rs t d (b .y1) (omega arith) (t .fills .tall))
+      (low-edge level b rs (c - 1) t (omega (arith, d .after)) (omega (arith, d .before))) (low-edge level b rs c t (omega (arith, d .after)) (d .before))
+  not-before level c b rs k t d e u =
+      no-cross k (c - 1) (b .x1) c e (omega (arith, d .after)) (low-edge upright b rs (c - 1) t (omega (arith, d .after)) (omega (arith, d .before)))
+      (low-edge upright b rs c t (omega (arith, d .after)) (d .before)) u (cut-built level c b rs t d (b .x1) (omega arith) (t .fills .wide))
+
+  -- nor go on beyond it
+  not-behind : (a : Direction) (c : ℕ) (b : Rect) (rs : List Rect) → Part b rs → Cut a c b rs → built (S a) c (end (other a) b) ≡ true → ⊥
+  not-behind upright c b rs t d u =
+      let g : b .y1 < b .y2 = t .fills .tall in
+      no-cross (c - 1) (b .y2 - 1) c (b .y2) (omega (arith, d .after)) (omega arith)
+      (cut-built upright c b rs t d (b .y2 - 1) (omega arith) (omega arith)) u
+      (high-edge level b rs (c - 1) t (omega (arith, d .after)) (omega (arith, d .before))) (high-edge level b rs c t (omega (arith, d .after)) (d .before))
+  not-behind level c b rs t d u =
+      let g : b .x1 < b .x2 = t .fills .wide in
+      no-cross (b .x2 - 1) (c - 1) (b .x2) c (omega arith) (omega (arith, d .after))
+      (high-edge upright b rs (c - 1) t (omega (arith, d .after)) (omega (arith, d .before)))
+      (high-edge upright b rs c t (omega (arith, d .after)) (d .before)) (cut-built level c b rs t d (b .x2 - 1) (omega arith) (omega arith)) u
 
   -- the walls of a direction
   way-walls : (a : Direction) (w : Partition) → List·Memᴰ w (register p) → w .direction ≡ wayByte a
@@ -239,25 +347,28 @@ module _ (p : Plan) (f : Fills (inner p) (roomsOf p)) where
   wall-built a b w m s k l h =
       let (x, y, q) = way-walls a w m (s .is-way) in
       let e : w .number ≡ x = ap (λ (w : Partition). w .number) q in
-      rw e (built-to (S a) x (longOf (wayByte a) p) y k (omega (arith, s .begins-by, ap (λ (w : Partition). w .begins) q))
-      (omega (arith, s .ends-by, ap (λ (w : Partition). w .ends) q)))
+      rw e (built-to (S a) x (longOf (wayByte a) p) y k (omega (arith, s .is-begin, ap (λ (w : Partition). w .begins) q))
+      (omega (arith, s .is-end, ap (λ (w : Partition). w .ends) q)))
 
-  -- and what is built from side to side is on one wall that spans b
-  built-wall : (a : Direction) (c : ℕ) (b : Rect) → begin a b < c → c < end a b → begin (other a) b < end (other a) b → Across a c b
+  -- AND A STRAIGHT CUT IS ONE WALL, from side to side
+  cut-spans : (a : Direction) (c : ℕ) (b : Rect) (rs : List Rect) → Part b rs → Cut a c b rs
       → (w : Partition) × List·Memᴰ w (register p) × Spans a b w × (w .number ≡ c)
   unfolding partition
-  built-wall a c b l h g all =
+  cut-spans a c b rs t d =
       let lo : ℕ = begin (other a) b in
       let hi : ℕ = end (other a) b in
-      let (y, i, t, below) = begin-of (S a) c lo (all lo (omega arith) g) in
+      let g : lo < hi = fills-long (other a) b rs (t .fills) in
+      let all : Across a c b = cut-built a c b rs t d in
+      let (y, i, n, below) = begin-of (S a) c lo (all lo (omega arith) g) in
+      let e : y ≡ lo = first y i below (decLt y lo) in
       let (q, m, w, u, v) = built-room a c (hi - 1) (all (hi - 1) (omega arith) (omega arith)) in
       let (x₁, x₂, x₃) = within-long a (inner p) q (f .within q m) in
       let (z₁, z₂) = room-ends a q m in
-      let e : hi ≤ endFrom (S a) c (longOf (wayByte a) p) y = end-far (S a) c (longOf (wayByte a) p) y hi (omega arith) (omega arith)
-      (λ k n o. unit y below k n o (decLe k lo)) in (
+      let o : endFrom (S a) c (longOf (wayByte a) p) y ≡ hi = end-is (S a) c (longOf (wayByte a) p) y hi (omega arith) (omega arith)
+      (λ k j l. all k (omega arith) l) (not-built (S a) c hi (not-behind a c b rs t d)) in (
         partition (wayByte a) (S a) (longOf (wayByte a) p) c y,
-        walls-way a c y (line q w x₁ z₁) t (omega arith),
-        record { is-way = refl; after = l; before = h; begins-by = i; ends-by = e },
+        walls-way a c y (line q w x₁ z₁) n (omega arith),
+        record { is-way = refl; after = d .after; before = d .before; is-begin = e; is-end = o },
         refl,
       )
     where
@@ -265,10 +376,11 @@ module _ (p : Plan) (f : Fills (inner p) (roomsOf p)) where
       line q (inl w) x z = omega arith
       line q (inr w) x z = omega arith
 
-      unit : (y : ℕ) → ((k : ℕ) → y ≤ k → k ≤ begin (other a) b → built (S a) c k ≡ true) → (k : ℕ) → y ≤ k → k < end (other a) b
-          → Dec (k ≤ begin (other a) b) → built (S a) c k ≡ true
-      unit y below k n o (yes z) = below k n z
-      unit y below k n o (no z) = all k (omega arith) o
+      first : (y : ℕ) → y ≤ begin (other a) b → ((k : ℕ) → y ≤ k → k ≤ begin (other a) b → built (S a) c k ≡ true) → Dec (y < begin (other a) b)
+          → y ≡ begin (other a) b
+      first y i below (yes z) =
+          absurd (not-before a c b rs (begin (other a) b - 1) t d (omega arith) (below (begin (other a) b - 1) (omega arith) (omega arith)))
+      first y i below (no z) = omega arith
 
   -- the register stands in order
   register-order : pairwise earlier (register p) ≡ true
@@ -289,13 +401,6 @@ module _ (p : Plan) (f : Fills (inner p) (roomsOf p)) where
   same-cut : (a : Direction) (b : Rect) (rs : List Rect) → Part b rs → wallCut a b (register p) ≡ firstCut a b rs
   same-cut a b rs t = go (wallCut a b (register p)) refl (firstCut a b rs) refl
     where
-      long : (a : Direction) → begin (other a) b < end (other a) b
-      long upright = t .fills .tall
-      long level = t .fills .wide
-
-      wall : (c : ℕ) → Cut a c b rs → (w : Partition) × List·Memᴰ w (register p) × Spans a b w × (w .number ≡ c)
-      wall c k = built-wall a c b (k .after) (k .before) (long a) (cut-built a c b rs t k)
-
       line : (c : ℕ) → wallCut a b (register p) ≡ some c → Cut a c b rs
       line c e =
           let (w, m, s, q) = cut-wall a b (register p) c e in
@@ -303,11 +408,11 @@ module _ (p : Plan) (f : Fills (inner p) (roomsOf p)) where
 
       least : (c d : ℕ) → wallCut a b (register p) ≡ some c → Cut a d b rs → c ≤ d
       least c d e k =
-          let (w, m, s, q) = wall d k in omega (arith, cut-least a b (register p) c w register-order e m s)
+          let (w, m, s, q) = cut-spans a d b rs t k in omega (arith, cut-least a b (register p) c w register-order e m s)
 
       go : (o : Option ℕ) → wallCut a b (register p) ≡ o → (l : Option ℕ) → firstCut a b rs ≡ l → wallCut a b (register p) ≡ firstCut a b rs
       go none e none g = e ∙ sym g
-      go none e (some c) g = let (w, m, s, q) = wall c (first-is-cut a b rs c g) in absurd (no-wall a b (register p) w e m s)
+      go none e (some c) g = let (w, m, s, q) = cut-spans a c b rs t (first-is-cut a b rs c g) in absurd (no-wall a b (register p) w e m s)
       go (some c) e none g = absurd (no-first a b rs g c (line c e))
       go (some c) e (some d) g =
           let i : c ≤ d = least c d e (first-is-cut a b rs d g) in

@@ -48,7 +48,7 @@ mem-low d (r ∷ rs) zero h = List·Memᴰ·head refl
 mem-low d (r ∷ rs) (suc i) h = List·Memᴰ·tail (List·Memᴰ·tail (mem-low d rs i (omega arith)))
 
 -- the high side of each rectangle is among the sides of all
-mem-high : (d : ℕ) (rs : List Rect) (i : ℕ) → i < length rs → List·Memᴰ (highSide d (getD rs i nowhere)) (sidesIn d rs)
+pub mem-high : (d : ℕ) (rs : List Rect) (i : ℕ) → i < length rs → List·Memᴰ (highSide d (getD rs i nowhere)) (sidesIn d rs)
 unfolding sidesIn
 mem-high d [] i h = absurd (omega arith)
 mem-high d (r ∷ rs) zero h = List·Memᴰ·tail (List·Memᴰ·head refl)

@@ -9,9 +9,6 @@ mul-number-at c = search needs
 number-at-requires : tie.Need-number-at-requires
 number-at-requires c κs = search needs
 
-number-requires : tie.Need-number-requires
-number-requires c κs = search needs
-
 mul-number-at-2 : tie.Need-mul-number-at-2
 mul-number-at-2 c = search needs
 
@@ -21,14 +18,11 @@ add-number-at c = search needs
 number-at-requires-2 : tie.Need-number-at-requires-2
 number-at-requires-2 c κs = search needs
 
-number-requires-2 : tie.Need-number-requires-2
-number-requires-2 c κs = search needs
-
-add-result : tie.Need-add-result
-add-result c = search needs
+mark-of-requires : tie.Need-mark-of-requires
+mark-of-requires c κs = search needs
 
 returns : tie.Need-returns
-returns c = (search (corner-is, needs), search needs)
+returns c = search (corner-is, needs)
 
 pub corner-at-spec : {M : Type 1} → statement M
 corner-at-spec =
@@ -36,10 +30,8 @@ corner-at-spec =
     (tie.spec
     mul-number-at
     number-at-requires
-    number-requires
     mul-number-at-2
     add-number-at
     number-at-requires-2
-    number-requires-2
-    add-result
+    mark-of-requires
     returns)

@@ -1,16 +1,16 @@
 use borrow.Author.Needs.{needs}
-use Prim.Native.Nat.{_+_, _-_}
+use Prim.Native.Nat.{_-_}
 use mathlib.Core.Path.{_≡_, _∙_}
 use Rattle.floor.specs.Cuts.ByWalls.{leafOf}
 use Rattle.drawing.specs.Rects.{rectIn}
 use Rattle.cuts.specs.Tasks.{roomsFrom}
-use Rattle.cuts.specs.Links.{RoomAt}
+use Rattle.cuts.specs.Links.{markOf, RoomAt}
 use Rattle.cuts.proofs.Linking.{leaf-here, leaf-none, from-start, from-there, follow-none, follow-on, follow-there}
 use Rattle.cuts.proofs.links.room_from.Statement.{statement}
 use Rattle.cuts.proofs.links.room_from.Tie as tie
 
 abbrev Inv-loop : tie.InvT-loop
-Inv-loop rects last next first b w₀ w = RoomAt rects last (b .x1 + b .y1) w × (leafOf (rectIn b) (roomsFrom last w rects) ≡ leafOf (rectIn b) (roomsFrom last 4 rects))
+Inv-loop rects last next first b w₀ w = RoomAt rects last (markOf (b .x1) (b .y1)) w × (leafOf (rectIn b) (roomsFrom last w rects) ≡ leafOf (rectIn b) (roomsFrom last 4 rects))
 
 abbrev μ-loop : tie.MeasureT-loop
 μ-loop rects last next first b w₀ w = last - w

@@ -1,4 +1,4 @@
-use Rattle.cuts.proofs.Looking.{half-behind, half-before}
+use Rattle.cuts.proofs.Arranging.{half-behind, half-before}
 use borrow.Author.Needs.{needs}
 use Rattle.cuts.proofs.rows.halved.Statement.{statement}
 use Rattle.cuts.proofs.rows.halved.Tie as tie
@@ -6,11 +6,8 @@ use Rattle.cuts.proofs.rows.halved.Tie as tie
 add-mid : tie.Need-add-mid
 add-mid c = search needs
 
-mul-number-at : tie.Need-mul-number-at
-mul-number-at c = search needs
-
-number-at-requires : tie.Need-number-at-requires
-number-at-requires c κs = search needs
+key-at-requires : tie.Need-key-at-requires
+key-at-requires c κs = search needs
 
 add-t9 : tie.Need-add-t9
 add-t9 c = search needs
@@ -22,5 +19,4 @@ returns-2 : tie.Need-returns-2
 returns-2 c = search (half-before, needs)
 
 pub halved-spec : {M : Type 1} → statement M
-halved-spec =
-    tie.close (tie.spec add-mid mul-number-at number-at-requires add-t9 returns returns-2)
+halved-spec = tie.close (tie.spec add-mid key-at-requires add-t9 returns returns-2)

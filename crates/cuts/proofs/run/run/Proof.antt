@@ -12,11 +12,11 @@ use Rattle.cuts.proofs.run.run.Statement.{statement}
 use Rattle.cuts.proofs.run.run.Tie as tie
 
 abbrev Inv-loop : tie.InvT-loop
-Inv-loop rows ups many rects last heads next buf₀ stack₀ waiting₀ at₀ buf stack waiting at = (length stack ≡ 136) × (length buf ≡ 544) × (waiting ≤ 136) × (at ≤ 544)
+Inv-loop rows order ups many rects last heads next buf₀ stack₀ waiting₀ at₀ buf stack waiting at = (length stack ≡ 136) × (length buf ≡ 544) × (waiting ≤ 136) × (at ≤ 544)
     × Sofar (wallsIn ups many 0 rows) (roomsFrom last 4 rects) (rectIn (getD stack₀ 0 noRect)) buf at stack waiting
 
 abbrev μ-loop : tie.MeasureT-loop
-μ-loop rows ups many rects last heads next buf₀ stack₀ waiting₀ at₀ buf stack waiting at = 545 - at
+μ-loop rows order ups many rects last heads next buf₀ stack₀ waiting₀ at₀ buf stack waiting at = 545 - at
 
 filled-requires : tie.Need-filled-requires Inv-loop μ-loop
 filled-requires c κs = search needs
@@ -52,7 +52,7 @@ act-of-requires : tie.Need-act-of-requires Inv-loop μ-loop
 act-of-requires c κs = search needs
 
 same-length-2 : tie.Need-same-length-2 Inv-loop μ-loop
-same-length-2 c = search needs
+same-length-2 c = omega (arith, c .before .before .before .before .before .before .before .loop .inv .1, c .before .before .before .before .before .before .before .before .before .before .before .before .before .before .before .pre .10)
 
 returns-2 : tie.Need-returns-2 Inv-loop μ-loop
 returns-2 c = search (run-stuck, needs)
