@@ -1,5 +1,5 @@
 -- THE THREE DEMANDS of the customer, as theorems. Assumes nothing.
-use Prim.Native.Nat.{ℕ, _+_, _≤_, _<_, _*_}
+use Prim.Native.Nat.{ℕ, _+_, _≤_, _<_, _*_, suc}
 use mathlib.Core.Path.{_≡_}
 use mathlib.Core.Logic.{_⊎_, _↔_}
 use mathlib.Core.Bool.{true}
@@ -25,9 +25,9 @@ use Rattle.floor.specs.Calls.{BoardsAlike, StepsAlike, WellHeld, ofLoad,
 use Rattle.floor.specs.Calls.Sound.{Sound, some-room, sound-good, any-calls-sound, SoundBoard, step-sound, run-sound}
 use Rattle.floor.specs.Registers.{Register, register, Partition}
 use Rattle.floor.specs.Registers.Unique.{one-register}
-use Rattle.floor.specs.Cuts.{Sliceable, Tree, leaves, roomsOf, inner, planTree}
+use Rattle.floor.specs.Cuts.{Sliceable, Tree, cuts, leaves, writeTree, roomsOf, inner, planTree}
 use Rattle.floor.specs.Calls.Registered.{held-register, held-walls, held-sides}
-use Rattle.floor.specs.Calls.Sliced.{slices-exactly, unsliceable-exactly, each-room-once}
+use Rattle.floor.specs.Calls.Sliced.{slices-exactly, unsliceable-exactly, each-room-once, as-many-leaves, one-cut-fewer, so-many-bytes}
 use Rattle.floor.specs.Calls.Touching.{touch-joined, touch-borders, touching-back, touch-label, touch-twice, frame-touch, frame-clear}
 use Rattle.floor.specs.Calls.Effects.{refused-leaves, write-load, load-write, turn-turn}
 use Rattle.floor.specs.Calls.Always.{turn-done, turn-refused}
@@ -160,6 +160,12 @@ any-calls-uncut cs j p h = unsliceable-exactly j p (any-calls-sound cs j p h)
 pub any-calls-leaves : (cs : List Call) (j : Job) (p : Plan) → run empty cs ≡ holding j p
     → (t : Tree) → planTree p ≡ some t → (v : ℕ) → Room j v → count (eqb v) (leaves t) ≡ 1
 any-calls-leaves cs j p h = each-room-once j p (any-calls-sound cs j p h)
+
+-- It has n leaves and n - 1 cuts, so that its writing has 9n - 5 bytes.
+pub any-calls-tree : (cs : List Call) (j : Job) (p : Plan) → run empty cs ≡ holding j p → (t : Tree) → planTree p ≡ some t
+    → (length (leaves t) ≡ length j) × (suc (cuts t) ≡ length j) × (5 + length (writeTree t) ≡ 9 * length j)
+any-calls-tree cs j p h t e =
+    let s : Sound j p = any-calls-sound cs j p h in (as-many-leaves j p s t e, one-cut-fewer j p s t e, so-many-bytes j p s t e)
 
 -- A job that has passed every earlier test is refused as undrawable exactly when its numbered rectangles break one of these.
 pub undrawable-exactly : (j : Job) → Labelling j → 0 < length j → (f g : List ℕ) → jobNumbers upright j ≡ some f → jobNumbers level j ≡ some g
