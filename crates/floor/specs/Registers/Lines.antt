@@ -63,16 +63,6 @@ end-least S x (suc m) c = go (built S x c) (end-least S x m (suc c))
     go true h = omega arith
     go false h = omega arith
 
--- all built up to there: the wall ends no earlier
-pub end-far : (S : List Stretch) (x m b e : ℕ) → b ≤ e → e ≤ b + m → ((k : ℕ) → b ≤ k → k < e → built S x k ≡ true) → e ≤ endFrom S x m b
-end-far S x zero b e l h all = omega (arith, end-least S x zero b)
-end-far S x (suc m) b e l h all = go (ℕ-discrete b e) (end-far S x m (suc b) e)
-  where
-    go : Dec (b ≡ e) → (suc b ≤ e → e ≤ suc b + m → ((k : ℕ) → suc b ≤ k → k < e → built S x k ≡ true) → e ≤ endFrom S x m (suc b)) → e ≤ endFrom S x (suc m) b
-    go (yes z) below = omega (arith, end-least S x (suc m) b)
-    go (no z) below =
-        unfold endFrom in rw (all b (omega arith) (omega arith)) (below (omega arith) (omega arith) (λ k i j. all k (omega arith) j))
-
 -- from where a wall goes on to where it ends, every unit is built
 pub built-to : (S : List Stretch) (x m b k : ℕ) → b ≤ k → k < endFrom S x m b → built S x k ≡ true
 unfolding endFrom
