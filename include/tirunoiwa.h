@@ -10,6 +10,7 @@
  *    4  a neighbour or kind that cannot be  12  a list has fewer than two
  *    5  not a star                          13  no such vertex
  *    6  a contact that one room lacks       14  the buffer is too short
+ *                                           15  no straight cuts take the floor apart
  * 8 is not used.
  * From 256 on it is 256 plus a value: the number of bytes written, or how two vertices touch.
  *
@@ -31,11 +32,12 @@ extern "C" {
 #endif
 
 /*
- * Buffers that always suffice: for a plan, a sheet and 64 rectangles; for the walls, 63 of them; for a turned job, 60 stars of 360 pairs. A star is never
- * longer than its job.
+ * Buffers that always suffice: for a plan, a sheet and 64 rectangles; for the walls, 63 of them; for the cuts, 60 rooms and 59 cuts; for a turned job, 60
+ * stars of 360 pairs. A star is never longer than its job.
  */
 #define TIRUNOIWA_PLAN_MOST (5 + 64 * 8)
 #define TIRUNOIWA_WALLS_MOST (63 * 8)
+#define TIRUNOIWA_CUTS_MOST (60 * 4 + 59 * 5)
 #define TIRUNOIWA_JOB_MOST (4 + 60 * 3 + 360 * 2)
 
 /* Reads a job and writes its plan to the front of `out`. Answers 256 + the plan's length, or 1 to 7, 9, 14. */
@@ -46,6 +48,13 @@ size_t tirunoiwa_plan(const uint8_t *job, size_t job_length, uint8_t *out, size_
  * beginning, end, room sides), upright walls first, then by number, then by beginning. Answers 256 + the length, or 1 to 7, 9, 14.
  */
 size_t tirunoiwa_walls(const uint8_t *job, size_t job_length, uint8_t *out, size_t out_length);
+
+/*
+ * Reads a job and writes the tree of straight cuts that take its rooms apart to the front of `out`: a cut is a field of tag 5, length 2 (direction 0 upright or
+ * 1 level, place), behind which its left or lower part follows and then the other; a room is a field of tag 6, length 1. The leftmost upright cut comes first,
+ * where there is none the lowest level one. Answers 256 + the length, or 1 to 7, 9, 15, 14.
+ */
+size_t tirunoiwa_cuts(const uint8_t *job, size_t job_length, uint8_t *out, size_t out_length);
 
 /* Reads a job, turns the contact of rooms u and v, and writes the turned job to the front of `out`. Answers 256 + its length, or 1 to 7, 9, 11, 12, 14. */
 size_t tirunoiwa_turned(const uint8_t *job, size_t job_length, size_t u, size_t v, uint8_t *out, size_t out_length);

@@ -43,6 +43,8 @@ void board_touches(void);
 void board_write_job(void);
 void board_write_plan(void);
 void board_write_walls(void);
+void board_slices(void);
+void board_write_cuts(void);
 
 /* A function, what it may take of the stack, the deepest that was seen, and its own stack. */
 struct call {
@@ -58,8 +60,9 @@ struct call {
 static struct call calls[] = {
     CALL(tirunoiwa_plan), CALL(tirunoiwa_turned), CALL(tirunoiwa_star), CALL(tirunoiwa_touch), CALL(tirunoiwa_walls),  CALL(board_load),
     CALL(board_turn),     CALL(board_rectangle),  CALL(board_touches),  CALL(board_write_job), CALL(board_write_plan), CALL(board_write_walls),
+    CALL(tirunoiwa_cuts), CALL(board_slices),     CALL(board_write_cuts),
 };
-enum { PLAN, TURNED, STAR, TOUCH, WALLS, LOAD, TURN, RECTANGLE, TOUCHES, WRITE_JOB, WRITE_PLAN, WRITE_WALLS };
+enum { PLAN, TURNED, STAR, TOUCH, WALLS, LOAD, TURN, RECTANGLE, TOUCHES, WRITE_JOB, WRITE_PLAN, WRITE_WALLS, CUTS, SLICES, WRITE_CUTS };
 
 static const char *under_way = "";
 static uint8_t job[MOST];
@@ -188,6 +191,12 @@ static void on_job(size_t length)
     make_on_board(WRITE_WALLS, &held, lent, MOST);
     if (loaded == 256 && told.answer != tirunoiwa_value(walls)) {
         stop("board_write_walls", "not as long as the walls");
+    }
+    const size_t cuts = make(CUTS, NULL, bytes, length, lent, MOST, 0, 0);
+    const size_t sliceable = make_on_board(SLICES, &held, 0, 0);
+    const size_t cut = make_on_board(WRITE_CUTS, &held, lent, MOST);
+    if (loaded == 256 && (sliceable == 1 ? cut != tirunoiwa_value(cuts) : cut != 15)) {
+        stop("board_write_cuts", "not as long as the cuts, or not refused by 15");
     }
 }
 

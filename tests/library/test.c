@@ -63,6 +63,25 @@ static const uint8_t P9_WALLS[] = {
     8, 0, 5, 1, 2, 1, 4, 4,
     8, 0, 5, 1, 3, 1, 4, 2,
 };
+/* The cuts of both, and a pinwheel, which no straight cut takes apart. */
+static const uint8_t F_CUTS[] = {
+    5, 0, 2, 0, 2,
+    5, 0, 2, 1, 3, 6, 0, 1, 6, 6, 0, 1, 4,
+    5, 0, 2, 1, 2, 6, 0, 1, 7, 6, 0, 1, 5,
+};
+static const uint8_t P9_CUTS[] = {
+    5, 0, 2, 1, 2,
+    5, 0, 2, 0, 3, 6, 0, 1, 6, 6, 0, 1, 7,
+    5, 0, 2, 0, 2, 6, 0, 1, 4, 6, 0, 1, 5,
+};
+static const uint8_t PINWHEEL[] = {
+    1, 0, 1, 5,
+    2, 0, 10, 8, 0, 7, 0, 1, 1, 2, 2, 5, 3,
+    2, 0, 10, 6, 0, 8, 1, 4, 1, 2, 2, 3, 3,
+    2, 0, 10, 0, 0, 7, 1, 8, 2, 5, 2, 3, 3,
+    2, 0, 10, 0, 0, 1, 1, 4, 2, 8, 3, 6, 3,
+    2, 0, 8, 6, 0, 7, 1, 4, 2, 5, 3,
+};
 /* No rooms; no bytes; F without the contact of 5 and 6. */
 static const uint8_t P2[] = {1, 0, 1, 0};
 static const uint8_t P3[] = {0};
@@ -174,6 +193,20 @@ static void walls(void)
     refused("walls of P10 before a short buffer", tirunoiwa_walls(P10, SIZE(P10), lend(), 0), 9);
 }
 
+static void cuts(void)
+{
+    wrote("cuts of F", tirunoiwa_cuts(F, SIZE(F), lend(), MOST), F_CUTS, SIZE(F_CUTS));
+    wrote("cuts of F, no byte to spare", tirunoiwa_cuts(F, SIZE(F), lend(), SIZE(F_CUTS)), F_CUTS, SIZE(F_CUTS));
+    wrote("cuts of P9", tirunoiwa_cuts(P9, SIZE(P9), lend(), TIRUNOIWA_CUTS_MOST), P9_CUTS, SIZE(P9_CUTS));
+    refused("cuts of F, a byte too short", tirunoiwa_cuts(F, SIZE(F), lend(), SIZE(F_CUTS) - 1), 14);
+    refused("cuts of F into no bytes", tirunoiwa_cuts(F, SIZE(F), lend(), 0), 14);
+    refused("cuts of a pinwheel", tirunoiwa_cuts(PINWHEEL, SIZE(PINWHEEL), lend(), MOST), 15);
+    refused("cuts of a pinwheel before a short buffer", tirunoiwa_cuts(PINWHEEL, SIZE(PINWHEEL), lend(), 0), 15);
+    refused("cuts of P2", tirunoiwa_cuts(P2, SIZE(P2), lend(), MOST), 2);
+    refused("cuts of P3", tirunoiwa_cuts(P3, 0, lend(), MOST), 1);
+    refused("cuts of P10 before a short buffer", tirunoiwa_cuts(P10, SIZE(P10), lend(), 0), 9);
+}
+
 static uint8_t *put_bytes(uint8_t *at, const uint8_t *bytes, size_t length)
 {
     memcpy(at, bytes, length);
@@ -193,6 +226,21 @@ static void walls_of_sixty(const uint8_t *job, size_t job_length)
     end = put_bytes(end, level, SIZE(level));
     wrote("walls of sixty rooms", tirunoiwa_walls(job, job_length, lend(), TIRUNOIWA_WALLS_MOST), list, (size_t)(end - list));
     refused("walls of sixty rooms, a byte too short", tirunoiwa_walls(job, job_length, lend(), TIRUNOIWA_WALLS_MOST - 1), 14);
+}
+
+/* The cuts of sixty rooms in a row, each cut off on the left: no tree is longer. */
+static void cuts_of_sixty(const uint8_t *job, size_t job_length)
+{
+    static uint8_t tree[TIRUNOIWA_CUTS_MOST];
+    static const uint8_t last[] = {6, 0, 1, 63};
+    uint8_t *end = tree;
+    for (uint8_t v = 4; v < 63; v++) {
+        const uint8_t cut_off[] = {5, 0, 2, 0, (uint8_t)(v - 2), 6, 0, 1, v};
+        end = put_bytes(end, cut_off, SIZE(cut_off));
+    }
+    end = put_bytes(end, last, SIZE(last));
+    wrote("cuts of sixty rooms", tirunoiwa_cuts(job, job_length, lend(), TIRUNOIWA_CUTS_MOST), tree, (size_t)(end - tree));
+    refused("cuts of sixty rooms, a byte too short", tirunoiwa_cuts(job, job_length, lend(), TIRUNOIWA_CUTS_MOST - 1), 14);
 }
 
 /* The greatest plan: sixty rooms in a row, between W and E. */
@@ -223,6 +271,7 @@ static void row_of_sixty(void)
     wrote("sixty rooms in a row", tirunoiwa_plan(job, job_length, lend(), TIRUNOIWA_PLAN_MOST), plan, length);
     refused("sixty rooms, a byte too short", tirunoiwa_plan(job, job_length, lend(), TIRUNOIWA_PLAN_MOST - 1), 14);
     walls_of_sixty(job, job_length);
+    cuts_of_sixty(job, job_length);
     refused("a row turned", tirunoiwa_turned(job, job_length, 4, 5, lend(), MOST), 12);
 }
 
@@ -274,6 +323,7 @@ int main(void)
 {
     plans();
     walls();
+    cuts();
     row_of_sixty();
     turns();
     stars();

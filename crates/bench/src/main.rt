@@ -89,6 +89,7 @@ fn mark(reply: Reply) -> u64 {
         Reply::Refused(k) => 1000 * (k as u64),
         Reply::Spans(rect) => rect.x2 as u64,
         Reply::Touched(touch) => shared(touch),
+        Reply::Says(yes) => yes as u64,
         Reply::Wrote(_) => 0,
     }
 }

@@ -2,6 +2,7 @@
 use Prim.Native.Nat.{ℕ, _+_}
 use mathlib.Core.Path.{_≡_, refl, sym, ap, _∙_}
 use mathlib.Core.Bool.{Bool, true, false, not, _&&_}
+use mathlib.Core.Option.{Option, none, some}
 use mathlib.Core.List.{List, []}
 use borrow.Author.Tests.{ne-eqb, eq-eqb, not-true, not-false}
 use lib.Dec.{leb}
@@ -11,7 +12,8 @@ use Rattle.floor.specs.Jobs.Facts.{six-passed, passes-of}
 use Rattle.floor.specs.Jobs.Written.{read-test2}
 use Rattle.floor.specs.Plans.{Plan, Answer, refused, held, nowhere, rectOf, clear, touchOf, writePlan, drawRead}
 use Rattle.floor.specs.Registers.{Partition, writeRegister}
-use Rattle.floor.specs.Calls.{load, Board, empty, holding, loads, turns, rectangle, touches, writesJob, writesPlan, writesRegister, refusal}
+use Rattle.floor.specs.Cuts.{isTree}
+use Rattle.floor.specs.Calls.{load, Board, empty, holding, loads, turns, rectangle, touches, writesJob, writesPlan, writesRegister, slices, writesCuts, refusal}
 use Rattle.floor.specs.Calls.{refuse, after, asks, writes, touching, step}
 use Rattle.fields.specs.declared.Written.{Written}
 use Rattle.fields.specs.declared.Written.the-variants.{Wrote as WroteSo, TooShort}
@@ -35,13 +37,16 @@ use Rattle.registers.specs.declared.Register.{Register}
 use Rattle.registers.specs.Sorting.{keptWalls}
 use Rattle.registers.specs.Kept.{noRegister, keptRegister, wallsIn, registerIn}
 use Rattle.registers.proofs.Corollaries.{counted-held, walls-held}
+use Rattle.cuts.specs.declared.Written.{Written as CutsWritten}
+use Rattle.cuts.specs.declared.Written.the-variants.{Wrote as WroteCuts, TooShort as TooShortCuts, NotSliceable}
+use Rattle.cuts.specs.Runs.{treeBytes, cutTree, replied as cutsReplied, writing as writingCuts}
 use Rattle.turns.specs.declared.Swing.{Swing}
 use Rattle.turns.specs.declared.Swing.the-variants.{Stops, Swings}
 use Rattle.turns.specs.InPlace.{swings, swingOf, twoSet, swungIn, turnedIn, twoPut, swingSaid}
 use Rattle.board.specs.declared.Board.{Board as HeldBoard}
 use Rattle.board.specs.declared.Planned.{Planned}
 use Rattle.board.specs.declared.Reply.{Reply as Said}
-use Rattle.board.specs.declared.Reply.the-variants.{Refused, Done, Spans, Touched, Wrote}
+use Rattle.board.specs.declared.Reply.the-variants.{Refused, Done, Spans, Touched, Says, Wrote}
 use Rattle.board.specs.declared.Step.{Step as Handed}
 use Rattle.board.specs.Boards.{boardFor, noBoard, boardOf, kept, Plans, replyOf, handed, Outcome, asRules, staying, stayed, newly, turnedTo, outcome, Tells}
 
@@ -193,6 +198,16 @@ module _ (b : HeldBoard) (e : b .stars .count ≡ 0) where
   pub ten-walls : (buf : List ℕ) → Tells (record { board = b; reply = Refused 10 }) buf (outcome b (writesRegister buf))
   unfolding outcome asRules handed refuse replyOf
   ten-walls buf = rw (eq-eqb (b .stars .count) 0 e) (record { reply = refl; board = refl; buffer = refl })
+
+  -- the question whether the floor can be cut straight is refused with 10
+  pub ten-slices : Tells (record { board = b; reply = Refused 10 }) [] (outcome b slices)
+  unfolding outcome asRules handed refuse replyOf
+  ten-slices = rw (eq-eqb (b .stars .count) 0 e) (record { reply = refl; board = refl; buffer = refl })
+
+  -- the writing of the cuts is refused with 10, and the buffer stays
+  pub ten-cuts : (buf : List ℕ) → Tells (record { board = b; reply = Refused 10 }) buf (outcome b (writesCuts buf))
+  unfolding outcome asRules handed refuse replyOf
+  ten-cuts buf = rw (eq-eqb (b .stars .count) 0 e) (record { reply = refl; board = refl; buffer = refl })
 
 -- ---- a job and a plan are held
 
@@ -362,6 +377,51 @@ module _ (b : HeldBoard) (n : b .stars .count ≡ 0 → ⊥) (buf x : List ℕ) 
   answer-walls e =
       let f = rw (walls-held (b .register)) at e in
       rw (ne-eqb (b .stars .count) 0 n) (writes-tells b empty _ (inBytes (writeRegister (registerIn (b .register)))) buf x q (eq ∙ f .0) (f .1))
+
+-- ---- cuts
+
+-- what the writing of the cuts answers
+pub cuts-wrote : (w : CutsWritten) (n : ℕ) → w ≡ WroteCuts n → replyOf (Wrote n) ≡ cutsReplied w
+unfolding replyOf cutsReplied
+cuts-wrote w n e = rw e
+
+-- too short a buffer is refused with 14
+pub cuts-short : (w : CutsWritten) → w ≡ TooShortCuts → replyOf (Refused 14) ≡ cutsReplied w
+unfolding replyOf cutsReplied
+cuts-short w e = rw e
+
+-- a floor that cannot be cut straight is refused with 15
+pub cuts-none : (w : CutsWritten) → w ≡ NotSliceable → replyOf (Refused 15) ≡ cutsReplied w
+unfolding replyOf cutsReplied
+cuts-none w e = rw e
+
+-- what the writing of the cuts answers and leaves in the buffer is what it tells on any board, and the board stays
+cuts-tells : (b : HeldBoard) (o : Option (List ℕ)) (buf x : List ℕ) (q : Said) → replyOf q ≡ writingCuts o buf .reply → x ≡ writingCuts o buf .buffer
+    → Tells (record { board = b; reply = q }) x (asRules b (writingCuts o buf))
+unfolding writingCuts
+cuts-tells b none buf x q e f = unfold asRules refuse handed in record { reply = e; board = refl; buffer = f }
+cuts-tells b (some bs) buf x q e f = unfold writing in writes-tells b empty _ bs buf x q e f
+
+module _ (b : HeldBoard) (n : b .stars .count ≡ 0 → ⊥) where
+  -- the held plan, by its numbers
+  abbrev numbers-plan : Plan
+  numbers-plan = planFrom (b .plan .width) (b .plan .height) (b .plan .rooms + 4) (b .plan .rects)
+
+  -- whether the held plan can be cut straight is what the question tells
+  pub answer-slices : (t : Bool) → t ≡ isTree (cutTree numbers-plan) → Tells (record { board = b; reply = Says t }) [] (outcome b slices)
+  unfolding outcome asRules asks replyOf handed
+  answer-slices t e =
+      let f = rw (plan-held (b .plan)) at e in
+      rw (ne-eqb (b .stars .count) 0 n, f) (record { reply = refl; board = refl; buffer = refl })
+
+  -- what writing the cuts of the held plan answers and leaves is what the call tells
+  pub answer-cuts : (buf x : List ℕ) (w : CutsWritten) (q : Said) → replyOf q ≡ cutsReplied w
+      → (cutsReplied w ≡ writingCuts (treeBytes (cutTree numbers-plan)) buf .reply) × (x ≡ writingCuts (treeBytes (cutTree numbers-plan)) buf .buffer)
+      → Tells (record { board = b; reply = q }) x (outcome b (writesCuts buf))
+  unfolding outcome
+  answer-cuts buf x w q eq e =
+      let f = rw (plan-held (b .plan)) at e in
+      rw (ne-eqb (b .stars .count) 0 n) (cuts-tells b (treeBytes (cutTree (planIn (b .plan)))) buf x q (eq ∙ f .0) (f .1))
 
 -- held stars numbered or drawn, as the job that they are
 pub stars-drawn : (f : Job → Answer) (s : Stars) (n : ℕ) (r : Drawing) → n ≡ s .count

@@ -6,7 +6,7 @@ use Rattle.floor.specs.Jobs.{Job}
 use Rattle.floor.specs.Plans.{Plan, Answer, held, clear, wall}
 use Rattle.floor.specs.Plans.Held.{not-held, one-number}
 use Rattle.floor.specs.Registers.{register}
-use Rattle.floor.specs.Calls.{load, Reply, refusal, done, spans, touch, wrote}
+use Rattle.floor.specs.Calls.{load, Reply, refusal, done, spans, touch, says, wrote}
 use Rattle.floor.specs.Calls.Sound.{load-held}
 use Rattle.stars.specs.Held.{jobOf}
 use Rattle.drawing.specs.Rects.{rectIn, touchIn, planIn}
@@ -19,7 +19,7 @@ use Rattle.registers.proofs.Corollaries.{few-kept}
 use Rattle.board.specs.declared.Board.{Board as HeldBoard}
 use Rattle.board.specs.declared.Planned.{Planned}
 use Rattle.board.specs.declared.Reply.{Reply as Said}
-use Rattle.board.specs.declared.Reply.the-variants.{Refused, Done, Spans, Touched, Wrote}
+use Rattle.board.specs.declared.Reply.the-variants.{Refused, Done, Spans, Touched, Says, Wrote}
 use Rattle.board.specs.declared.Step.{Step as Handed}
 use Rattle.board.specs.Boards.{boardFor, kept, Plans, replyOf, Outcome, Tells}
 use Rattle.board.proofs.Standing.{register-is}
@@ -33,6 +33,7 @@ saying done = Done
 saying (spans r) = Spans (record { vertex = r .vertex; x1 = r .x1; y1 = r .y1; x2 = r .x2; y2 = r .y2 })
 saying (touch clear) = Touched Clear
 saying (touch (wall k n)) = Touched (Wall k n)
+saying (says t) = Says t
 saying (wrote n) = Wrote n
 
 -- the reply that says what a reply says is that reply
@@ -43,6 +44,7 @@ saying-back Done = refl
 saying-back (Spans r) = refl
 saying-back (Touched Clear) = refl
 saying-back (Touched (Wall k n)) = refl
+saying-back (Says t) = refl
 saying-back (Wrote n) = refl
 
 -- two calls that hand back the same board and the same reply hand back the same

@@ -2,7 +2,8 @@
 use Prim.Native.Nat.{ℕ, _≤_}
 use mathlib.Core.Path.{_≡_, refl, sym, ap, _∙_}
 use mathlib.Core.Bool.{Bool, true, false}
-use mathlib.Core.List.{List}
+use mathlib.Core.Option.{Option, none, some}
+use mathlib.Core.List.{List, []}
 use native.Mathlib.Omega.{arith}
 use borrow.Author.Tests.{ne-eqb, leb-true}
 use lib.Dec.{leb}
@@ -16,11 +17,13 @@ use Rattle.floor.specs.Floor.Elsewhere.{Ours}
 use Rattle.floor.specs.Turns.{turning, turn, Kept}
 use Rattle.floor.specs.Turns.Restore.{turnable, turned-keeps}
 use Rattle.floor.specs.Registers.{Partition, register, writeRegister}
-use Rattle.floor.specs.Calls.{load, Board, empty, holding, Call, loads, turns, rectangle, touches, writesJob, writesPlan, writesRegister, Reply}
-use Rattle.floor.specs.Calls.{refuse, after, asks, writes, step}
+use Rattle.floor.specs.Cuts.{Tree, writeTree, planTree, isTree}
+use Rattle.floor.specs.Calls.{load, Board, empty, holding, Call, loads, turns, rectangle, touches, writesJob, writesPlan, writesRegister, slices, writesCuts, Reply}
+use Rattle.floor.specs.Calls.{says, refuse, after, asks, writes, writesTree, step}
 use Rattle.floor.specs.Calls.Sound.{Sound, sound-good, some-room, load-held, turn-held}
 use Rattle.floor.specs.Calls.Always.{reads-numbered, reads-held}
 use Rattle.floor.specs.Calls.Bytes.{plan-bytes}
+use Rattle.floor.specs.Calls.Sliced.{cuts-bytes}
 use Rattle.fields.specs.Writes.{writing}
 use Rattle.stars.specs.Held.{jobOf, noStars, heldOf}
 use Rattle.stars.proofs.Holding.{length-stars}
@@ -31,6 +34,8 @@ use Rattle.drawing.proofs.Corollaries.{numbered-any, bytes-kept, plan-back as d
 use Rattle.registers.specs.Sorting.{keptWalls}
 use Rattle.registers.specs.Kept.{keptRegister, registerIn}
 use Rattle.registers.proofs.Corollaries.{kept-right, held-back, held-written}
+use Rattle.cuts.specs.Runs.{treeBytes, cutTree, writing as writingCuts}
+use Rattle.cuts.proofs.Corollaries.{held-tree}
 use Rattle.turns.specs.InPlace.{Swing, stops, swings, swingOf, twoTurned, turnedJob, twoPut}
 use Rattle.turns.proofs.Placing.{turning-swings}
 use Rattle.turns.proofs.TurnedStars.{held-turned}
@@ -178,6 +183,32 @@ none-walls : (buf : List ℕ) → outcome noBoard (writesRegister buf) ≡ asRul
 unfolding outcome boardOf noBoard noStars step
 none-walls buf = refl
 
+-- and the question whether the floor can be cut straight
+none-slices : outcome noBoard slices ≡ asRules noBoard (step (boardOf noBoard) slices)
+unfolding outcome boardOf noBoard noStars step
+none-slices = refl
+
+-- and the writing of the cuts
+none-cuts : (buf : List ℕ) → outcome noBoard (writesCuts buf) ≡ asRules noBoard (step (boardOf noBoard) (writesCuts buf))
+unfolding outcome boardOf noBoard noStars step
+none-cuts buf = refl
+
+-- a question answered hands back the very board, whatever the rules hold
+asks-same : (b : HeldBoard) (a c : Board) (t : Bool) → asRules b (asks a true (says t)) ≡ asRules b (asks c true (says t))
+unfolding asRules asks handed
+asks-same b a c t = refl
+
+-- the tree of a held plan, written, is as the rules say
+cuts-rules : (b : HeldBoard) (j : Job) (p : Plan) → Sound j p → (buf : List ℕ)
+    → asRules b (writingCuts (treeBytes (planTree p)) buf) ≡ asRules b (writesTree (holding j p) (planTree p) buf)
+cuts-rules b j p s buf = go (planTree p) refl
+  where
+    go : (o : Option Tree) → planTree p ≡ o → asRules b (writingCuts (treeBytes o) buf) ≡ asRules b (writesTree (holding j p) o buf)
+    go none e = unfold writingCuts treeBytes writesTree asRules refuse handed in refl
+    go (some t) e =
+        unfold writingCuts treeBytes writesTree writing in
+        rw (bytes-kept (writeTree t) (cuts-bytes j p s t e)) (writes-same b empty (holding j p) (leb (length (writeTree t)) (length buf)) (writeTree t) buf)
+
 -- WHERE A BOARD STANDS, THE OUTCOME OF ANY CALL IS THAT OF THE RULES
 pub by-rules : (b : HeldBoard) → Stands b → (c : Call) → outcome b c ≡ asRules b (step (boardOf b) c)
 unfolding outcome step writing
@@ -188,6 +219,8 @@ by-rules b s (writesJob buf) = refl
 by-rules b holds-none (turns u v) = none-turns u v
 by-rules b holds-none (writesPlan buf) = none-writes buf
 by-rules b holds-none (writesRegister buf) = none-walls buf
+by-rules b holds-none slices = none-slices
+by-rules b holds-none (writesCuts buf) = none-cuts buf
 by-rules b (holds-both j p s) (turns u v) =
     rw (board-holds j p s, ne-eqb (boardFor j p .stars .count) 0 (some-held j p s), job-is j p s) (turn-rules j p s u v)
 by-rules b (holds-both j p s) (writesPlan buf) =
@@ -196,6 +229,11 @@ by-rules b (holds-both j p s) (writesPlan buf) =
 by-rules b (holds-both j p s) (writesRegister buf) =
     rw (board-holds j p s, ne-eqb (boardFor j p .stars .count) 0 (some-held j p s), walls-written j p s)
     (writes-same (boardFor j p) empty (holding j p) (leb (length (writeRegister (register p))) (length buf)) (writeRegister (register p)) buf)
+by-rules b (holds-both j p s) slices =
+    rw (board-holds j p s, ne-eqb (boardFor j p .stars .count) 0 (some-held j p s), plan-is j p s, held-tree j p s)
+    (asks-same (boardFor j p) empty (holding j p) (isTree (planTree p)))
+by-rules b (holds-both j p s) (writesCuts buf) =
+    rw (board-holds j p s, ne-eqb (boardFor j p .stars .count) 0 (some-held j p s), plan-is j p s, held-tree j p s) (cuts-rules (boardFor j p) j p s buf)
 
 -- ---- what a call leaves
 
@@ -221,6 +259,12 @@ module _ (b : HeldBoard) (a : Board) (h : Holds b a) where
   unfolding handed writes refuse
   left-writes true bs buf = h
   left-writes false bs buf = h
+
+  -- so does the board that comes back from the writing of the cuts
+  left-tree : (o : Option Tree) (buf : List ℕ) → Holds (handed b (writesTree a o buf .reply) (writesTree a o buf .board)) (writesTree a o buf .board)
+  unfolding writesTree
+  left-tree none buf = unfold handed refuse in h
+  left-tree (some t) buf = left-writes _ (writeTree t) buf
 
 -- what a board that stands holds is sound
 sound-of : (b : HeldBoard) → Stands b → (j : Job) (p : Plan) → boardOf b ≡ holding j p → Sound j p
@@ -248,12 +292,16 @@ left-step b empty h (touches u v) = h
 left-step b empty h (writesJob buf) = h
 left-step b empty h (writesPlan buf) = h
 left-step b empty h (writesRegister buf) = h
+left-step b empty h slices = h
+left-step b empty h (writesCuts buf) = h
 left-step b (holding i q) h (turns u v) = left-after b (holding i q) h (turn i u v) (λ j p e. turn-held i q u v j p (sound-of b (h .0) i q (h .1)) e)
 left-step b (holding i q) h (rectangle v) = left-asks b (holding i q) h _ _ refl
 left-step b (holding i q) h (touches u v) = left-asks b (holding i q) h _ _ refl
 left-step b (holding i q) h (writesJob buf) = left-writes b (holding i q) h _ (writeJob i) buf
 left-step b (holding i q) h (writesPlan buf) = left-writes b (holding i q) h _ (writePlan q) buf
 left-step b (holding i q) h (writesRegister buf) = left-writes b (holding i q) h _ (writeRegister (register q)) buf
+left-step b (holding i q) h slices = left-asks b (holding i q) h _ _ refl
+left-step b (holding i q) h (writesCuts buf) = left-tree b (holding i q) h (planTree q) buf
 
 -- WHERE A BOARD STANDS, the board that a call hands back stands and holds what the rules say
 pub stands-on : (b : HeldBoard) → Stands b → (c : Call) → Holds (outcome b c .board) (step (boardOf b) c .board)

@@ -1,14 +1,15 @@
 -- What a board holds, and what a call hands back. Assumes nothing.
 use Prim.Native.Nat.{ℕ}
 use mathlib.Core.Path.{_≡_}
-use mathlib.Core.Bool.{cond}
+use mathlib.Core.Bool.{true, cond}
 use mathlib.Core.List.{List, []}
 use lib.Dec.{eqb}
 use Rattle.floor.specs.Jobs.{Job}
 use Rattle.floor.specs.Plans.{Plan, Answer, refused, held, writePlan}
 use Rattle.floor.specs.Registers.{writeRegister}
-use Rattle.floor.specs.Calls.{Board, empty, holding, Call, loads, turns, rectangle, touches, writesJob, writesPlan, writesRegister}
-use Rattle.floor.specs.Calls.{Reply, refusal, done, spans, touch, wrote, Step, refuse, step}
+use Rattle.floor.specs.Cuts.{isTree}
+use Rattle.floor.specs.Calls.{Board, empty, holding, Call, loads, turns, rectangle, touches, writesJob, writesPlan, writesRegister, slices, writesCuts}
+use Rattle.floor.specs.Calls.{Reply, refusal, done, spans, touch, says, wrote, Step, refuse, asks, step}
 use Rattle.fields.specs.Writes.{writing}
 use Rattle.stars.specs.declared.Stars.{Stars}
 use Rattle.stars.specs.Held.{jobOf, noStars, heldOf}
@@ -16,11 +17,12 @@ use Rattle.drawing.specs.Rects.{rectIn, touchIn, planIn, inBytes, noPlan, heldP
 use Rattle.drawing.specs.Drawn.{numberedAny, said}
 use Rattle.registers.specs.Sorting.{keptWalls}
 use Rattle.registers.specs.Kept.{noRegister, keptRegister, registerIn}
+use Rattle.cuts.specs.Runs.{treeBytes, cutTree, writing as writingCuts}
 use Rattle.turns.specs.InPlace.{Swing, stops, swings, swingOf, twoPut}
 use Rattle.board.specs.declared.Board.{Board as HeldBoard}
 use Rattle.board.specs.declared.Planned.{Planned}
 use Rattle.board.specs.declared.Reply.{Reply as Said}
-use Rattle.board.specs.declared.Reply.the-variants.{Refused, Done, Spans, Touched, Wrote}
+use Rattle.board.specs.declared.Reply.the-variants.{Refused, Done, Spans, Touched, Says, Wrote}
 use Rattle.board.specs.declared.Step.{Step as Handed}
 
 -- THE BOARD AS A LOAD LEAVES IT: the stars of the job, the rectangles of the plan, and its walls, counted from it
@@ -45,12 +47,13 @@ pub record Plans (r : Planned) (x : Answer) : Type 0 where
   pub says : said (r .answer) (jobOf (r .board .stars)) (planIn (r .board .plan)) ≡ x
   pub keeps : r .board ≡ kept x
 
--- WHAT A REPLY SAYS: a refusal's number, done, the rectangle, how two touch, the length written
+-- WHAT A REPLY SAYS: a refusal's number, done, the rectangle, how two touch, yes or no, the length written
 unfoldable pub replyOf : Said → Reply
 replyOf (Refused k) = refusal k
 replyOf Done = done
 replyOf (Spans r) = spans (rectIn r)
 replyOf (Touched t) = touch (touchIn t)
+replyOf (Says t) = says t
 replyOf (Wrote n) = wrote n
 
 -- the board that comes back from a call: a new one where a job and plan are newly held, and else the very board that went in
@@ -60,6 +63,7 @@ handed b done empty = b
 handed b (refusal k) c = b
 handed b (spans r) c = b
 handed b (touch t) c = b
+handed b (says t) c = b
 handed b (wrote n) c = b
 
 -- what comes back from a call: the board, the answer, and the bytes of the lent buffer
@@ -90,8 +94,8 @@ unfoldable pub turnedTo : HeldBoard → Swing → Outcome
 turnedTo b (stops k) = staying b k
 turnedTo b (swings u v t) = newly b (twoPut (b .stars) u v t) (numberedAny (jobOf (twoPut (b .stars) u v t)))
 
--- ONE CALL ON ANY BOARD, whatever stands in it: of what it holds as the rules say; a contact is turned in the very stars, and of the plan and of the register
--- one byte of each number is written
+-- ONE CALL ON ANY BOARD, whatever stands in it: of what it holds as the rules say; a contact is turned in the very stars, of the plan and of the register one
+-- byte of each number is written, and the cuts are those by the walls of the plan, of at most sixty rooms
 unfoldable pub outcome : HeldBoard → Call → Outcome
 outcome b (loads bs) = asRules b (step (boardOf b) (loads bs))
 outcome b (turns u v) = cond (eqb (b .stars .count) 0) (staying b 10) (turnedTo b (swingOf (jobOf (b .stars)) u v))
@@ -102,6 +106,9 @@ outcome b (writesPlan buf) =
     asRules b (cond (eqb (b .stars .count) 0) (refuse empty 10 buf) (writing (inBytes (writePlan (planIn (b .plan)))) buf))
 outcome b (writesRegister buf) =
     asRules b (cond (eqb (b .stars .count) 0) (refuse empty 10 buf) (writing (inBytes (writeRegister (registerIn (b .register)))) buf))
+outcome b slices = asRules b (cond (eqb (b .stars .count) 0) (refuse empty 10 []) (asks empty true (says (isTree (cutTree (planIn (b .plan)))))))
+outcome b (writesCuts buf) =
+    asRules b (cond (eqb (b .stars .count) 0) (refuse empty 10 buf) (writingCuts (treeBytes (cutTree (planIn (b .plan)))) buf))
 
 -- A CALL'S PROMISE: reply, board and every byte of the lent buffer are those of the outcome
 pub record Tells (r : Handed) (buf : List ℕ) (s : Outcome) : Type 0 where

@@ -1,7 +1,7 @@
 // The board: load, questions, writing. It goes in by value and comes back from each call.
 ghost use mathlib.Core.Path.{_≡_};
 ghost use mathlib.Core.List.{[]};
-ghost use Rattle.floor.specs.Calls.{load, loads, turns, rectangle, touches, writesJob, writesPlan, writesRegister};
+ghost use Rattle.floor.specs.Calls.{load, loads, turns, rectangle, touches, writesJob, writesPlan, writesRegister, slices, writesCuts};
 ghost use Rattle.drawing.specs.declared.Answer.the-variants.{Refused};
 ghost use Rattle.stars.specs.Held.{jobOf};
 ghost use Rattle.drawing.specs.Drawn.{numberedAny, drawnAny, Draws};
@@ -34,6 +34,7 @@ pub enum Reply {
     Done,
     Spans(Rect),
     Touched(Touch),
+    Says(bool),
     Wrote(usize),
 }
 
@@ -282,6 +283,46 @@ impl Board {
             out,
         );
         let reply = questions::written_reply(written);
+        Step {
+            board: self,
+            reply: reply,
+        }
+    }
+
+    // Whether the held floor can be cut straight: 10.
+    pub fn slices(self) -> Step
+        ensures { λ r. ⌜ Tells r [] (outcome self slices) ⌝ }
+    {
+        if self.stars.count == 0 {
+            return stays(self, 10);
+        }
+        let yes = cuts::sliceable(
+            &self.plan.rects,
+            self.plan.rooms,
+            self.plan.width,
+            self.plan.height,
+        );
+        Step {
+            board: self,
+            reply: Reply::Says(yes),
+        }
+    }
+
+    // The tree of cuts of the held floor, written to the front of a lent buffer: 10, 15, 14.
+    pub fn write_cuts(self, out: &mut [u8]) -> Step
+        ensures { λ r. ⌜ Tells r (now (out .exit)) (outcome self (writesCuts (now (out .entry)))) ⌝ }
+    {
+        if self.stars.count == 0 {
+            return stays(self, 10);
+        }
+        let written = cuts::write_cuts(
+            &self.plan.rects,
+            self.plan.rooms,
+            self.plan.width,
+            self.plan.height,
+            out,
+        );
+        let reply = questions::cuts_reply(written);
         Step {
             board: self,
             reply: reply,

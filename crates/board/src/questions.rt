@@ -6,6 +6,7 @@ ghost use lib.Dec.{leb};
 ghost use Rattle.floor.specs.Calls.{touching};
 ghost use Rattle.fields.specs.Writes.{replied};
 ghost use Rattle.drawing.specs.Rects.{planFrom, touchIn};
+ghost use Rattle.cuts.specs.Runs.{replied as cutsReplied};
 ghost use Rattle.board.specs.Boards.{replyOf};
 use crate::Reply;
 use drawing::Touch;
@@ -47,5 +48,16 @@ pub fn written_reply(written: Written) -> Reply
     match written {
         Written::Wrote(length) => Reply::Wrote(length),
         Written::TooShort => Reply::Refused(14),
+    }
+}
+
+// What the writing of the cuts answers, as a reply.
+pub fn cuts_reply(written: cuts::Written) -> Reply
+    ensures { λ r. ⌜ replyOf r ≡ cutsReplied written ⌝ }
+{
+    match written {
+        cuts::Written::Wrote(length) => Reply::Wrote(length),
+        cuts::Written::TooShort => Reply::Refused(14),
+        cuts::Written::NotSliceable => Reply::Refused(15),
     }
 }

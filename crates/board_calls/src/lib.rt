@@ -74,6 +74,7 @@ fn answer_of(reply: Reply) -> usize {
         Reply::Done => 256,
         Reply::Spans(rect) => fields::number(rect.x1),
         Reply::Touched(touch) => length_of(touch),
+        Reply::Says(yes) => yes as usize,
         Reply::Wrote(length) => length,
     }
 }
@@ -162,5 +163,21 @@ pub extern "C" fn board_write_plan(held: Held, out: &mut [u8]) -> Told {
 pub extern "C" fn board_write_walls(held: Held, out: &mut [u8]) -> Told {
     let board = board_of(held);
     let step = board.write_walls(out);
+    tell(step)
+}
+
+// `Board::slices`.
+#[no_mangle]
+pub extern "C" fn board_slices(held: Held) -> Told {
+    let board = board_of(held);
+    let step = board.slices();
+    tell(step)
+}
+
+// `Board::write_cuts`.
+#[no_mangle]
+pub extern "C" fn board_write_cuts(held: Held, out: &mut [u8]) -> Told {
+    let board = board_of(held);
+    let step = board.write_cuts(out);
     tell(step)
 }

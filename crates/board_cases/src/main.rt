@@ -29,6 +29,15 @@ fn show_touch(touch: Touch) {
     show_number(fields::number(length));
 }
 
+// Yes or no.
+fn show_yes(yes: bool) {
+    if yes {
+        io::write_all(1, b" yes");
+        return;
+    }
+    io::write_all(1, b" no");
+}
+
 // What was asked and what a call answered, on a line.
 fn show(asked: &[u8], reply: Reply) {
     io::write_all(1, asked);
@@ -45,6 +54,9 @@ fn show(asked: &[u8], reply: Reply) {
         }
         Reply::Touched(touch) => {
             show_touch(touch);
+        }
+        Reply::Says(yes) => {
+            show_yes(yes);
         }
         Reply::Wrote(length) => {
             io::write_all(1, b" bytes");
@@ -97,6 +109,18 @@ fn show_written(board: Board) {
     show_byte(walls, b"  where the first ends:", list[6]);
 }
 
+// Whether the floor can be cut straight, and its cuts, written.
+fn show_cuts(board: Board) {
+    let mut out = [0u8; 4096];
+    let first = board.slices();
+    let yes = first.reply;
+    show(b"  cut straight:", yes);
+    let second = board.write_cuts(&mut out);
+    let cuts = second.reply;
+    show(b"  the cuts:", cuts);
+    show_byte(cuts, b"  where the first is:", out[4]);
+}
+
 // The contact of rooms 5 and 6 turned, and the rectangle of 5 then.
 fn show_turned(board: Board) {
     let step = board.turn(5, 6);
@@ -112,6 +136,7 @@ fn show_board(name: &[u8], board: Board) {
     show_vertex(b"  rectangle of 5:", board, 5);
     show_touches(board);
     show_written(board);
+    show_cuts(board);
     show_turned(board);
 }
 

@@ -25,6 +25,10 @@ const STAR: u8 = 38;
 
 const WRITE_WALLS: u8 = 39;
 
+const SLICES: u8 = 40;
+
+const WRITE_CUTS: u8 = 41;
+
 // What stands after a field: the board, and whether another field may follow.
 struct Session {
     board: Board,
@@ -95,6 +99,14 @@ fn put_touch(page: &mut [u8; 4096], touch: Touch) -> usize {
     page::put_next(page, next, fields::number(length))
 }
 
+// Yes or no.
+fn put_yes(page: &mut [u8; 4096], yes: bool) -> usize {
+    if yes {
+        return page::put_word(page, 0, b"yes");
+    }
+    page::put_word(page, 0, b"no")
+}
+
 // The length that was written, and the whole lent buffer, so that what lies behind is seen too.
 fn put_wrote<'a>(page: &mut [u8; 4096], length: usize, lent: &'a [u8]) -> usize {
     let name = page::put_word(page, 0, b"wrote");
@@ -111,6 +123,7 @@ fn put_reply<'a>(page: &mut [u8; 4096], board: Board, reply: Reply, lent: &'a [u
         Reply::Done => put_sheet(page, plan),
         Reply::Spans(rect) => put_rect(page, rect),
         Reply::Touched(touch) => put_touch(page, touch),
+        Reply::Says(yes) => put_yes(page, yes),
         Reply::Wrote(length) => put_wrote(page, length, lent),
     }
 }
@@ -152,12 +165,21 @@ fn touch(board: Board, value: &[u8]) -> Session {
     told(step, b"")
 }
 
-// The held job, the held plan or its walls, as the tag says, written to a lent buffer.
+// Whether the floor can be cut straight.
+fn slices(board: Board, value: &[u8]) -> Session {
+    if value.len() != 0 {
+        return broken(board);
+    }
+    told(board.slices(), b"")
+}
+
+// The held job, the held plan, its walls or its cuts, as the tag says, written to a lent buffer.
 fn written(board: Board, tag: u8, lent: &mut [u8]) -> Step {
     match tag {
         WRITE_JOB => board.write_job(lent),
         WRITE_PLAN => board.write_plan(lent),
-        _ => board.write_walls(lent),
+        WRITE_WALLS => board.write_walls(lent),
+        _ => board.write_cuts(lent),
     }
 }
 
@@ -208,7 +230,8 @@ fn call(board: Board, tag: u8, value: &[u8]) -> Session {
         TURN => turn(board, value),
         RECTANGLE => rectangle(board, value),
         TOUCH => touch(board, value),
-        WRITE_JOB | WRITE_PLAN | WRITE_WALLS => write(board, tag, value),
+        SLICES => slices(board, value),
+        WRITE_JOB | WRITE_PLAN | WRITE_WALLS | WRITE_CUTS => write(board, tag, value),
         STAR => star(board, value),
         _ => broken(board),
     }

@@ -112,6 +112,14 @@ pub fn middle_down(sheet: Sheet, y1: u16, y2: u16) -> usize
     (down(sheet, y1) + down(sheet, y2)) / 2
 }
 
+// The last line of the rooms along an axis, by its cells: one less, or 0.
+pub fn last(cells: u16) -> u16 {
+    if cells == 0 {
+        return 0;
+    }
+    cells - 1
+}
+
 // How wide the whole picture is: what is free at the left is free at the right.
 pub fn picture_width(sheet: Sheet) -> usize
     ensures { λ r. ⌜ (80 ≤ r) × (r < 5500000) ⌝ }

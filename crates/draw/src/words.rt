@@ -5,6 +5,12 @@ use crate::pen;
 use crate::place;
 use crate::place::Sheet;
 
+// What the marks on the lines of the floor are: the walls of the joiner's list, or the cuts in their order.
+pub enum Marked {
+    Walls,
+    Cuts,
+}
+
 // The start of a line of words, in the middle of the picture.
 fn open(sheet: Sheet, y: usize, size: usize) {
     pen::open_text(place::picture_width(sheet) / 2, y, size);
@@ -39,14 +45,6 @@ pub fn identity<'a>(sheet: Sheet, name: &'a [u8], job: &'a [u8]) {
     known_by(sheet, job);
 }
 
-// One less, or 0.
-fn before(n: u16) -> usize {
-    if n == 0 {
-        return 0;
-    }
-    fields::number(n - 1)
-}
-
 // What the frame is, and between which lines the rooms lie.
 fn frame(sheet: Sheet) {
     let bottom = place::down(sheet, 0);
@@ -54,16 +52,24 @@ fn frame(sheet: Sheet) {
     pen::word(b">The grey strip, one cell wide, is the frame: sides N, W, S and E.</text>\n");
     open(sheet, bottom + 43, 11);
     pen::word(b">Rooms begin at line 1 and end at line ");
-    pen::number(before(sheet.width));
+    pen::number(fields::number(place::last(sheet.width)));
     pen::word(b" across and line ");
-    pen::number(before(sheet.height));
+    pen::number(fields::number(place::last(sheet.height)));
     pen::word(b" up.</text>\n");
 }
 
-// How the walls are marked, as in the joiner's list.
-fn marks(sheet: Sheet) {
+// How the walls are marked, as in the joiner's list, or what the numbers on them are.
+fn marks(sheet: Sheet, marked: Marked) {
     open(sheet, place::down(sheet, 0) + 56, 11);
-    pen::word(b">Walls are marked as in the joiner's list: W upright, L level.</text>\n");
+    match marked {
+        Marked::Walls => pen::word(
+            b">Walls are marked as in the joiner's list: W upright, L level.",
+        ),
+        Marked::Cuts => pen::word(
+            b">White on black: straight cuts, in the order in which they are made.",
+        ),
+    }
+    pen::word(b"</text>\n");
 }
 
 // How the lines are counted, and how large a cell is where the page is large enough.
@@ -75,8 +81,8 @@ fn scale(sheet: Sheet) {
 }
 
 // How the picture is read.
-pub fn key(sheet: Sheet) {
+pub fn key(sheet: Sheet, marked: Marked) {
     frame(sheet);
-    marks(sheet);
+    marks(sheet, marked);
     scale(sheet);
 }

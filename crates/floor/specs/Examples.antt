@@ -16,9 +16,11 @@ use Rattle.floor.specs.Plans.{inOrder, roundInOrder, drawable, past, tes
 use Rattle.floor.specs.Plans.{facing, touchOn, touchOf, clear, wall}
 use Rattle.floor.specs.Registers.{lowSide, highSide, wideOf, longOf, sidesIn, roomSides, built, starts, endFrom, between, partition, wallsOn, wallsOf}
 use Rattle.floor.specs.Registers.{registerOf, register, partitionBytes, writeRegister}
+use Rattle.floor.specs.Cuts.{lowPart, highPart, crosses, uncrossed, firstOf, firstCut, choice, chosen, both, divided, grow, span, treeOf, wayByte}
+use Rattle.floor.specs.Cuts.{writeTree, roomsOf, inner, planTree, isTree}
 use Rattle.floor.specs.Turns.{turnedKind, withKind, endsAt, isLast, turned, turningAt, turningFrom, inContact, turning, turn}
 use Rattle.floor.specs.Calls.{Board, empty, holding, Call, loads, turns, rectangle, writesJob, writesPlan, Reply, refusal, done, spans, wrote, Step, load}
-use Rattle.floor.specs.Calls.{refuse, after, asks, writes, step, run, touches, touch, touching, writesRegister}
+use Rattle.floor.specs.Calls.{refuse, after, asks, writes, step, run, touches, touch, touching, writesRegister, slices, writesCuts, says, writesTree}
 
 -- P1: one room
 p1 : List ℕ
@@ -149,6 +151,22 @@ registerF =
     8 ∷ 0 ∷ 5 ∷ 0 ∷ 1 ∷ 1 ∷ 4 ∷ 2 ∷ 8 ∷ 0 ∷ 5 ∷ 0 ∷ 2 ∷ 1 ∷ 4 ∷ 4 ∷ 8 ∷ 0 ∷ 5 ∷ 0 ∷ 3 ∷ 1 ∷ 4 ∷ 2
     ∷ 8 ∷ 0 ∷ 5 ∷ 1 ∷ 1 ∷ 1 ∷ 3 ∷ 2 ∷ 8 ∷ 0 ∷ 5 ∷ 1 ∷ 2 ∷ 2 ∷ 3 ∷ 2 ∷ 8 ∷ 0 ∷ 5 ∷ 1 ∷ 3 ∷ 1 ∷ 2 ∷ 2 ∷ 8 ∷ 0 ∷ 5 ∷ 1 ∷ 4 ∷ 1 ∷ 3 ∷ 2 ∷ []
 
+-- the cuts of F as bytes: between the columns, then between the rooms of each
+cutsF : List ℕ
+cutsF =
+    5 ∷ 0 ∷ 2 ∷ 0 ∷ 2 ∷ 5 ∷ 0 ∷ 2 ∷ 1 ∷ 3 ∷ 6 ∷ 0 ∷ 1 ∷ 6 ∷ 6 ∷ 0 ∷ 1 ∷ 4
+    ∷ 5 ∷ 0 ∷ 2 ∷ 1 ∷ 2 ∷ 6 ∷ 0 ∷ 1 ∷ 7 ∷ 6 ∷ 0 ∷ 1 ∷ 5 ∷ []
+
+-- four rooms in a whirl about a fifth: each line across them goes through a room
+wheel : List ℕ
+wheel =
+    1 ∷ 0 ∷ 1 ∷ 5
+    ∷ 2 ∷ 0 ∷ 10 ∷ 0 ∷ 0 ∷ 1 ∷ 1 ∷ 7 ∷ 2 ∷ 8 ∷ 2 ∷ 5 ∷ 3
+    ∷ 2 ∷ 0 ∷ 10 ∷ 0 ∷ 0 ∷ 4 ∷ 1 ∷ 8 ∷ 1 ∷ 6 ∷ 2 ∷ 3 ∷ 3
+    ∷ 2 ∷ 0 ∷ 10 ∷ 5 ∷ 0 ∷ 8 ∷ 0 ∷ 7 ∷ 1 ∷ 2 ∷ 2 ∷ 3 ∷ 3
+    ∷ 2 ∷ 0 ∷ 10 ∷ 4 ∷ 0 ∷ 1 ∷ 1 ∷ 2 ∷ 2 ∷ 6 ∷ 3 ∷ 8 ∷ 3
+    ∷ 2 ∷ 0 ∷ 8 ∷ 4 ∷ 0 ∷ 7 ∷ 1 ∷ 6 ∷ 2 ∷ 5 ∷ 3 ∷ []
+
 -- the star of room v of n in a row: N above, to the left the room before or W, S below, to the right the room after or E
 unfoldable rowStar : ℕ → ℕ → Star
 rowStar n v =
@@ -169,13 +187,14 @@ unfoldable pub plan : Board → List ℕ
 plan empty = []
 plan (holding j p) = p .width ∷ p .height ∷ numbers (p .rects)
 
--- a refusal's number; the plan now held; a rectangle; side and length of a wall, or nothing; the length written and the whole buffer
+-- a refusal's number; the plan now held; a rectangle; side and length of a wall, or nothing; 1 for yes and 0 for no; the length written and the whole buffer
 unfoldable pub told : Reply → Board → List ℕ → List ℕ
 told (refusal k) b buf = k ∷ []
 told done b buf = plan b
 told (spans r) b buf = numbers (r ∷ [])
 told (touch clear) b buf = []
 told (touch (wall k n)) b buf = k ∷ n ∷ []
+told (says t) b buf = cond t 1 0 ∷ []
 told (wrote n) b buf = n ∷ buf
 
 -- some calls on an empty board, then one more, and what it shows
@@ -303,7 +322,22 @@ table =
     -- the seven walls of F
     record { before = loads jobF ∷ []; last = writesRegister (replicate 56 0); shows = 56 ∷ registerF }
     ∷
-    -- its plan written: 45 bytes, and the one behind untouched
+    -- F is sliceable, and its tree written: seven fields, and the byte behind untouched
+    record { before = loads jobF ∷ []; last = slices; shows = 1 ∷ [] }
+    ∷
+    record { before = loads jobF ∷ []; last = writesCuts (replicate 32 7); shows = 31 ∷ (cutsF ++ 7 ∷ []) }
+    ∷
+    -- a buffer one byte too short for it
+    record { before = loads jobF ∷ []; last = writesCuts (replicate 30 7); shows = 14 ∷ [] }
+    ∷
+    -- four rooms about a fifth: not sliceable, and 15 comes before 14
+    record { before = loads wheel ∷ []; last = slices; shows = 0 ∷ [] }
+    ∷
+    record { before = loads wheel ∷ []; last = writesCuts []; shows = 15 ∷ [] }
+    ∷
+    record { before = []; last = writesCuts []; shows = 10 ∷ [] }
+    ∷
+    -- the plan of P1 written: 45 bytes, and the one behind untouched
     record { before = loads p1 ∷ []; last = writesPlan (replicate 46 7); shows = 45 ∷ (planP1 ++ 7 ∷ []) }
     ∷ []
 
@@ -312,10 +346,10 @@ pub examples : all right table ≡ true
 unfolding rowStar row p1 p5 p6 p7 jobF jobG turnedG oneRoom below p10 floorP1 floorP5 floorF turnedF planP1 sameNumbers numbers plan told right table all
     any keep pairwise sum upFrom linksTo links changes goesOn endsAt isLast readField restOf writeField opposite frameKind rooms isVertex isRoom starOf
     names lists kindOf listOf pairsIn test2 test3 entryOk test4 starOk registerP1 registerF lowSide highSide wideOf longOf sidesIn roomSides built starts
-    endFrom between partition wallsOn wallsOf registerOf register partitionBytes writeRegister
-    test5 test6 entries starThen readStars readRest readRooms readFirst readJob passing firstSix starBytes writeStars writeJob entryRules starRules
-    rulesFrom raise relax1
-    relax meets over passes numbersOf jobNumbers rectOf roomRect planOf inside overlap abut apart area corner nextSide joined sharesJoined follows inOrder
-    roundInOrder drawable past tested planned drawn rectBytes writeRects writePlan turnedKind withKind turned turningAt turningFrom turning inContact turn
-    drawRead load refuse after asks writes step run isWall onLine facing touchOn touchOf touching
+    endFrom between partition wallsOn wallsOf registerOf register partitionBytes writeRegister test5 test6 entries starThen readStars readRest readRooms
+    readFirst readJob passing firstSix starBytes writeStars writeJob entryRules starRules rulesFrom raise relax1 relax meets over passes numbersOf
+    jobNumbers rectOf roomRect planOf inside overlap abut apart area corner nextSide joined sharesJoined follows inOrder roundInOrder drawable past tested
+    planned drawn rectBytes writeRects writePlan uncrossed crosses firstOf firstCut choice chosen both divided grow span treeOf wayByte writeTree lowPart
+    highPart roomsOf inner planTree isTree writesTree cutsF wheel turnedKind withKind turned turningAt turningFrom turning inContact turn drawRead load
+    refuse after asks writes step run isWall onLine facing touchOn touchOf touching
 examples = refl

@@ -1,12 +1,14 @@
 -- What the listing programs print, as bytes. Assumes nothing.
 use Prim.Native.Nat.{ℕ, zero, suc, _+_, _/_, _%_}
 use mathlib.Core.Bool.{cond}
+use mathlib.Core.Option.{Option, none, some}
 use mathlib.Core.List.{List, [], _∷_, _++_}
 use lib.ListN.{length}
 use lib.Dec.{leb, ltb}
 use Rattle.floor.specs.Quoted.{plain}
 use Rattle.floor.specs.Plans.{Rect, Plan, Answer, refused, held, rectBytes}
 use Rattle.floor.specs.Registers.{Partition, register, partitionBytes}
+use Rattle.floor.specs.Cuts.{Tree, leaf, cut, wayByte, planTree}
 use Rattle.floor.specs.Calls.{load}
 
 -- the digits of n, k of them at most, and then some text
@@ -67,3 +69,22 @@ wallsText (held j p) = wallLines (register p)
 -- WHAT THE JOINER'S PROGRAM PRINTS for some input
 unfoldable pub wallsListing : List ℕ → List ℕ
 wallsListing bs = cond (leb (length bs) 8192) (wallsText (load bs)) tooLong
+
+-- a tree of cuts, a line each: of a cut its direction and place, then the left or lower part, then the other; of a leaf its room
+unfoldable pub treeLines : Tree → List ℕ
+treeLines (leaf v) = line (v ∷ [])
+treeLines (cut a c s t) = line (wayByte a ∷ c ∷ []) ++ (treeLines s ++ treeLines t)
+
+-- the tree of a plan, or 15 where it has none
+unfoldable pub cutLines : Option Tree → List ℕ
+cutLines none = answerText (refused 15)
+cutLines (some t) = treeLines t
+
+-- what a load answers, for the contractor: the cuts of the plan, or the number of the refusal
+unfoldable pub cutsText : Answer → List ℕ
+cutsText (refused k) = answerText (refused k)
+cutsText (held j p) = cutLines (planTree p)
+
+-- WHAT THE CONTRACTOR'S PROGRAM PRINTS for some input
+unfoldable pub cutsListing : List ℕ → List ℕ
+cutsListing bs = cond (leb (length bs) 8192) (cutsText (load bs)) tooLong

@@ -1,12 +1,13 @@
 -- What a program that keeps no board asks of a job's bytes: the calls of a board, made one behind the other on an empty one. Assumes nothing.
 use Prim.Native.Nat.{ℕ, _+_, _*_}
+use mathlib.Core.Bool.{cond}
 use mathlib.Core.List.{List}
 use lib.ListN.{length}
 use lib.Dec.{leb}
 use Rattle.floor.specs.Jobs.{rawStar}
 use Rattle.floor.specs.Plans.{Touch, clear, wall}
 use Rattle.floor.specs.Calls.{empty, Board, Call, loads, turns, touches, writesJob, writesPlan, lent, Reply, refusal, done, spans, touch, wrote, Step}
-use Rattle.floor.specs.Calls.{refuse, writes, step, writesRegister}
+use Rattle.floor.specs.Calls.{refuse, writes, step, says, writesRegister, writesCuts}
 pub mod Codes
 
 -- a call made behind one with this reply: none is made behind a refused one, and its number stands
@@ -15,6 +16,7 @@ behind (refusal k) b c = refuse b k (lent c)
 behind done b c = step b c
 behind (spans r) b c = step b c
 behind (touch t) b c = step b c
+behind (says t) b c = step b c
 behind (wrote n) b c = step b c
 
 -- a call made behind another
@@ -37,6 +39,10 @@ touchOfJob bs u v = then (step empty (loads bs)) (touches u v)
 unfoldable pub wallsOfJob : List ℕ → List ℕ → Step
 wallsOfJob bs buf = then (step empty (loads bs)) (writesRegister buf)
 
+-- THE CUTS OF A JOB'S PLAN, written to a lent buffer
+unfoldable pub cutsOfJob : List ℕ → List ℕ → Step
+cutsOfJob bs buf = then (step empty (loads bs)) (writesCuts buf)
+
 -- THE STAR OF A ROOM in raw job bytes, written to a lent buffer; no bytes where there is no such room
 unfoldable pub starOfJob : List ℕ → ℕ → List ℕ → Step
 starOfJob bs room buf = writes empty (leb (length (rawStar bs room)) (length buf)) (rawStar bs room) buf
@@ -46,10 +52,12 @@ unfoldable pub touchCode : Touch → ℕ
 touchCode clear = 0
 touchCode (wall k n) = 4 * n + k
 
--- AN ANSWER AS ONE NUMBER: a refusal is its own number, below 256; from 256 on it is a length that was written, or a touch as one number
+-- AN ANSWER AS ONE NUMBER: a refusal is its own number, below 256; from 256 on it is a length that was written, a touch as one number, or 1 for yes and 0 for
+-- no
 unfoldable pub code : Reply → ℕ
 code (refusal k) = k
 code done = 256
 code (spans r) = 256
 code (touch t) = 256 + touchCode t
+code (says t) = 256 + cond t 1 0
 code (wrote n) = 256 + n

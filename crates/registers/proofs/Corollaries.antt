@@ -19,9 +19,9 @@ use Rattle.floor.specs.Registers.Runs.{Seen}
 use Rattle.floor.specs.Registers.Floors.{viewOf}
 use Rattle.floor.specs.Registers.Right.{side-lies, lies-inside, upright-seen, level-seen}
 use Rattle.floor.specs.Registers.Merge.{inLine, merged, Rearranged}
-use Rattle.floor.specs.Calls.Sound.{Sound, some-room, sound-good}
+use Rattle.floor.specs.Calls.Sound.{Sound, some-room, sound-good, sound-thin}
 use Rattle.floor.specs.Calls.Bytes.{limits}
-use Rattle.floor.specs.Calls.Registered.{sound-thin, held-walls, held-merged, register-bytes}
+use Rattle.floor.specs.Calls.Registered.{held-walls, held-merged, register-bytes}
 use Rattle.fields.specs.declared.Written.{Written}
 use Rattle.fields.specs.Writes.{replied, writing}
 use Rattle.fields.proofs.Corollaries.{one-written}

@@ -8,11 +8,14 @@ use borrow.Author.Tests.{le-leb, lt-leb}
 use lib.Dec.{leb}
 use lib.ListN.{length}
 use lib.Seq.{sets}
-use Rattle.floor.specs.Plans.{Answer, refused, held}
+use Rattle.floor.specs.Jobs.{Job}
+use Rattle.floor.specs.Plans.{Plan, Answer, refused, held}
 use Rattle.floor.specs.Registers.{Partition, register}
+use Rattle.floor.specs.Cuts.{planTree}
 use Rattle.floor.specs.Calls.{load}
+use Rattle.floor.specs.Calls.Sound.{Sound, load-held as loaded-sound}
 use Rattle.floor.specs.Quoted.{plain}
-use Rattle.floor.specs.Texts.{line, refusedWord, tooLong, planText, answerText, listing, wallLines, wallsText, wallsListing}
+use Rattle.floor.specs.Texts.{line, refusedWord, tooLong, planText, answerText, listing, wallLines, wallsText, wallsListing, cutLines, cutsText, cutsListing}
 use Rattle.stars.specs.Held.{jobOf}
 use Rattle.drawing.specs.declared.Answer.the-variants.{Drawn, Refused}
 use Rattle.drawing.specs.declared.Plan.{Plan as HeldPlan}
@@ -28,6 +31,7 @@ use Rattle.board.proofs.Corollaries.{planned-register, planned-few}
 use Rattle.letters.specs.Puts.{Puts}
 use Rattle.letters.proofs.Rows.{front-put}
 use Rattle.texts.proofs.Rows.{one-short}
+use Rattle.texts.proofs.Cutting.{cuts-short}
 
 -- a refusal, and what is said of input that is too long, at the front of a page
 module _ (o x : List ℕ) (r : ℕ) (l : length o ≡ 8192) where
@@ -46,7 +50,7 @@ module _ (o x : List ℕ) (r : ℕ) (l : length o ≡ 8192) where
 abbrev Fronts : List ℕ → List ℕ → List ℕ → ℕ → Type 0
 Fronts o t x r = (r ≡ length t) × (x ≡ sets o 0 t) × (r ≤ 8192)
 
--- the listing and the joiner's list go by what they print of an answer
+-- the listing, the joiner's list and the contractor's go by what they print of an answer
 module _ (bs : List ℕ) (text : Answer → List ℕ) where
   -- what is printed for some input
   abbrev printed : List ℕ
@@ -73,7 +77,7 @@ module _ (bs : List ℕ) (text : Answer → List ℕ) where
         let h : load bs ≡ refused k = sym (rw d at (p .says)) in
         rw (z, h)
 
--- both of them
+-- each of them
 module _ (bs : List ℕ) where
   -- over 8,192 bytes the listing says that it is too long
   pub long-text : 8192 < length bs → listing bs ≡ tooLong
@@ -84,6 +88,11 @@ module _ (bs : List ℕ) where
   pub long-walls : 8192 < length bs → wallsListing bs ≡ tooLong
   unfolding wallsListing
   long-walls = long bs wallsText
+
+  -- and the contractor's
+  pub long-cuts : 8192 < length bs → cutsListing bs ≡ tooLong
+  unfolding cutsListing
+  long-cuts = long bs cutsText
 
   module _ (l : length bs ≤ 8192) (q : Planned) (p : Plans q (load bs)) where
     -- the held plan, by its numbers
@@ -108,6 +117,24 @@ module _ (bs : List ℕ) where
         = ap (λ (ws : List Partition). wallLines ws) (walls-held (q .board .register) ∙ planned-register bs q p d) ∙ sym (drawn bs wallsText l q p d) in
         rw t at (front-put o (wallLines walls) x r puts e (omega (arith, short, planned-few bs q p d)))
 
+    -- the held plan, as its numbers say
+    abbrev drawn-plan : Plan
+    drawn-plan = planFrom (plan .width) (plan .height) (plan .rooms + 4) (plan .rects)
+
+    -- what is held of a job that is drawn is sound
+    drawn-sound : q .answer ≡ Drawn → Sound (jobOf (q .board .stars)) drawn-plan
+    unfolding said
+    drawn-sound d = rw (plan-held plan) (loaded-sound bs _ _ (sym (rw d at (p .says))) .1)
+
+    -- and for the contractor, at the front of the page: the lines of its cuts
+    pub cuts-text : (o x : List ℕ) (r : ℕ) → length o ≡ 8192 → ((j : Job) → Sound j drawn-plan → Puts o 0 (cutLines (planTree drawn-plan)) x r)
+        → q .answer ≡ Drawn → Fronts o (cutsListing bs) x r
+    unfolding cutsListing cutsText
+    cuts-text o x r e puts d =
+        let s = drawn-sound d in
+        let t : cutLines (planTree drawn-plan) ≡ cutsListing bs = ap (λ (a : Plan). cutLines (planTree a)) (plan-held plan) ∙ sym (drawn bs cutsText l q p d) in
+        rw t at (front-put o (cutLines (planTree drawn-plan)) x r (puts _ s) e (omega (arith, cuts-short _ _ s)))
+
     -- a job that is refused: the text of the refusal, at the front of the page
     pub refusal-text : (o x : List ℕ) (k r : ℕ) → Fronts o (answerText (refused k)) x r → q .answer ≡ Refused k → Fronts o (listing bs) x r
     unfolding listing
@@ -117,3 +144,8 @@ module _ (bs : List ℕ) where
     pub refusal-walls : (o x : List ℕ) (k r : ℕ) → Fronts o (answerText (refused k)) x r → q .answer ≡ Refused k → Fronts o (wallsListing bs) x r
     unfolding wallsListing wallsText
     refusal-walls o x k r e d = rw (undrawn bs wallsText l q p k d) e
+
+    -- and for the contractor
+    pub refusal-cuts : (o x : List ℕ) (k r : ℕ) → Fronts o (answerText (refused k)) x r → q .answer ≡ Refused k → Fronts o (cutsListing bs) x r
+    unfolding cutsListing cutsText
+    refusal-cuts o x k r e d = rw (undrawn bs cutsText l q p k d) e

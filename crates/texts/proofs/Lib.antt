@@ -4,3 +4,4 @@ mod Plans
 mod Fitting
 pub mod Corollaries
 mod Registers
+mod Cutting

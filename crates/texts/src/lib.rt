@@ -4,7 +4,7 @@ ghost use Prim.Native.Nat.{_+_, _≤_};
 ghost use lib.ListN.{length, replicate};
 ghost use lib.Seq.{sets};
 ghost use Rattle.floor.specs.Plans.{refused};
-ghost use Rattle.floor.specs.Texts.{tooLong, planText, answerText, listing, wallsListing};
+ghost use Rattle.floor.specs.Texts.{tooLong, planText, answerText, listing, wallsListing, cutsListing};
 ghost use Rattle.floor.specs.Doors.{doorsListing};
 ghost use Rattle.drawing.specs.Rects.{planFrom};
 
@@ -12,6 +12,7 @@ mod line; // line.rt: numbers on one line
 mod plan; // plan.rt: a line for each rectangle
 mod doors; // doors.rt: a line for each contact of two rooms
 mod walls; // walls.rt: a line for each wall
+mod trees; // trees.rt: a line for each cut and each room at a leaf
 
 // The number of a refusal, as text at the front; how many bytes that takes is handed back.
 pub fn list_refusal(k: u8, out: &mut [u8; 8192]) -> usize
@@ -97,6 +98,26 @@ pub fn list_walls(input: &[u8], out: &mut [u8; 8192]) -> usize
     match answer {
         drawing::Answer::Drawn => {
             walls::put_walls(&register.rows, register.uprights, register.many, out, 0)
+        }
+        drawing::Answer::Refused(k) => list_refusal(k, out),
+    }
+}
+
+// What the contractor's program prints for some input, at the front; how many bytes that takes is handed back.
+pub fn list_cuts(input: &[u8], out: &mut [u8; 8192]) -> usize
+    ensures { λ r. ⌜ (r ≡ length (cutsListing (now (input .entry)))) × (now (out .exit) ≡ sets (now (out .entry)) 0 (cutsListing (now (input .entry))))
+        × (r ≤ 8192) ⌝ }
+{
+    if 8192 < input.len() {
+        return list_too_long(out);
+    }
+    let planned = board::plan_job(input);
+    let board = planned.board;
+    let plan = board.plan;
+    let answer = planned.answer;
+    match answer {
+        drawing::Answer::Drawn => {
+            trees::put_cuts(&plan.rects, plan.rooms, plan.width, plan.height, out, 0)
         }
         drawing::Answer::Refused(k) => list_refusal(k, out),
     }

@@ -4,7 +4,7 @@ use mathlib.Core.Path.{_≡_, refl, sym, ap, _∙_}
 use mathlib.Core.List.{List}
 use native.Mathlib.Omega.{arith}
 use lib.ListN.{length}
-use Rattle.floor.specs.Calls.{Board, Call, Reply, refusal, done, spans, touch, wrote, Step, lent, refuse, step}
+use Rattle.floor.specs.Calls.{Board, Call, Reply, refusal, done, spans, touch, says, wrote, Step, lent, refuse, step}
 use Rattle.floor.specs.Tracker.{behind, then, code}
 use Rattle.board.specs.declared.Board.{Board as HeldBoard}
 use Rattle.board.specs.declared.Step.{Step as Handed}
@@ -23,6 +23,7 @@ behind-refused (refusal k) b c h = (refl, refl)
 behind-refused done b c h = absurd (omega arith)
 behind-refused (spans r) b c h = absurd (omega arith)
 behind-refused (touch t) b c h = absurd (omega arith)
+behind-refused (says t) b c h = absurd (omega arith)
 behind-refused (wrote n) b c h = absurd (omega arith)
 
 -- behind any other the call is made
@@ -32,6 +33,7 @@ behind-goes (refusal k) b c n h = absurd (omega (arith, n .1))
 behind-goes done b c n h = refl
 behind-goes (spans r) b c n h = refl
 behind-goes (touch t) b c n h = refl
+behind-goes (says t) b c m h = refl
 behind-goes (wrote n) b c m h = refl
 
 -- what any answer of the call has, and the refusal before it, the answer behind has
@@ -42,6 +44,7 @@ behind-any c P f (refusal k) b h = h k refl
 behind-any c P f done b h = f b
 behind-any c P f (spans r) b h = f b
 behind-any c P f (touch t) b h = f b
+behind-any c P f (says t) b h = f b
 behind-any c P f (wrote n) b h = f b
 
 -- what any answer of a call has, and the refusal of the step before it, the answer of both together has
@@ -50,7 +53,7 @@ pub then-any : (s : Step) (c : Call) (P : Reply → Type 0) → ((b : Board) →
 unfolding then
 then-any s c P f h = behind-any c P f (s .reply) (s .board) h
 
--- where a refusal of the first is one of 1 to 14, so is that of both together
+-- where a refusal of the first is one of 1 to 15, so is that of both together
 pub then-numbered : (s : Step) (c : Call) → Numbered (s .reply) → Numbered (then s c .reply)
 then-numbered s c n = then-any s c Numbered (λ b. step-numbered b c) (λ k e. rw e at n)
 

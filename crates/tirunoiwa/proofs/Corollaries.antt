@@ -3,6 +3,7 @@ use Prim.Native.Nat.{ℕ, _+_, _-_, _*_, _/_, _%_, _≤_, _<_}
 use mathlib.Core.Path.{_≡_, refl, sym, ap, _∙_}
 use mathlib.Core.Logic.{_↔_}
 use mathlib.Core.Bool.{Bool, true, false}
+use mathlib.Core.Option.{Option, none, some}
 use mathlib.Core.List.{List}
 use native.Mathlib.Omega.{arith}
 use borrow.Author.Tests.{leb-true}
@@ -10,10 +11,11 @@ use lib.ListN.{length}
 use Rattle.floor.specs.Jobs.{writeJob, rawStar}
 use Rattle.floor.specs.Plans.{Touch, clear, wall, writePlan}
 use Rattle.floor.specs.Registers.{register, writeRegister}
-use Rattle.floor.specs.Calls.{Board, empty, holding, Call, loads, turns, touches, writesJob, writesPlan, writesRegister, Reply, refusal, done, spans, touch, wrote}
-use Rattle.floor.specs.Calls.{Step, lent, refuse, asks, writes, touching, step}
+use Rattle.floor.specs.Cuts.{Tree, writeTree, planTree}
+use Rattle.floor.specs.Calls.{Board, empty, holding, Call, loads, turns, touches, writesJob, writesPlan, writesRegister, writesCuts, Reply, refusal, done, spans}
+use Rattle.floor.specs.Calls.{touch, says, wrote, Step, lent, refuse, asks, writes, writesTree, touching, step}
 use Rattle.floor.specs.Calls.Effects.{refused-leaves}
-use Rattle.floor.specs.Tracker.{behind, then, planOfJob, wallsOfJob, turnedOfJob, touchOfJob, starOfJob, touchCode, code}
+use Rattle.floor.specs.Tracker.{behind, then, planOfJob, wallsOfJob, cutsOfJob, turnedOfJob, touchOfJob, starOfJob, touchCode, code}
 use Rattle.floor.specs.Tracker.Codes.{Fair, touch-code, touching-fair}
 use Rattle.tirunoiwa.proofs.Numbers.{same-refusal, Numbered, step-numbered, writes-told}
 use Rattle.tirunoiwa.proofs.Calling.{then-any, then-numbered}
@@ -37,6 +39,10 @@ module _ (bs buf : List ℕ) (r t : ℕ) (x y : List ℕ) where
   pub one-walls : Promised (wallsOfJob bs buf) r x → Promised (wallsOfJob bs buf) t y → (r ≡ t) × (x ≡ y)
   one-walls = one (wallsOfJob bs buf) r t x y
 
+  -- THE PROMISE OF `tirunoiwa_cuts` ALLOWS ONE ANSWER AND ONE BUFFER
+  pub one-cuts : Promised (cutsOfJob bs buf) r x → Promised (cutsOfJob bs buf) t y → (r ≡ t) × (x ≡ y)
+  one-cuts = one (cutsOfJob bs buf) r t x y
+
   -- THE PROMISE OF `tirunoiwa_turned` ALLOWS ONE ANSWER AND ONE BUFFER
   pub one-turned : (u v : ℕ) → Promised (turnedOfJob bs u v buf) r x → Promised (turnedOfJob bs u v buf) t y → (r ≡ t) × (x ≡ y)
   one-turned u v = one (turnedOfJob bs u v buf) r t x y
@@ -51,10 +57,10 @@ one-touch bs u v r t p q = p ∙ sym q
 
 -- ---- how an answer is read
 
--- below 256 an answer is the refusal's number, one of 1 to 14; no other answer is below
+-- below 256 an answer is the refusal's number, one of 1 to 15; no other answer is below
 pub record Refusals (a : ℕ) (r : Reply) : Type 0 where
   pub refused : (k : ℕ) → (r ≡ refusal k) ↔ ((a ≡ k) × (a < 256))
-  pub number : a < 256 → (1 ≤ a) × (a ≤ 14)
+  pub number : a < 256 → (1 ≤ a) × (a ≤ 15)
 
 -- from 256 on an answer tells the length that was written
 pub record TellsLength (a : ℕ) (r : Reply) : Type 0 where
@@ -75,6 +81,7 @@ Lengths (refusal k) = Unit {0}
 Lengths done = ⊥
 Lengths (spans r) = ⊥
 Lengths (touch t) = ⊥
+Lengths (says t) = ⊥
 Lengths (wrote n) = Unit {0}
 
 -- a refusal, or a touch that can be
@@ -83,6 +90,7 @@ Fairly (refusal k) = Unit {0}
 Fairly done = ⊥
 Fairly (spans r) = ⊥
 Fairly (touch t) = Fair t
+Fairly (says t) = ⊥
 Fairly (wrote n) = ⊥
 
 -- a refusal is no length
@@ -102,7 +110,7 @@ same-touch : {t s : Touch} → touch t ≡ touch s → t ≡ s
 same-touch e = cc
 
 module _ (k : ℕ) (n : Numbered (refusal k)) where
-  -- a refusal with a number from 1 to 14 is read as that refusal
+  -- a refusal with a number from 1 to 15 is read as that refusal
   a-refusal : Refusals (code (refusal k)) (refusal k)
   unfolding code
   a-refusal = record { refused = λ l. ((λ e. (same-refusal e, omega (arith, n .1))), λ e. ap refusal (e .0)); number = λ h. n }
@@ -118,6 +126,7 @@ tells-length (refusal k) n w = record { refusals = a-refusal k n; length = λ m.
 tells-length done n w = absurd w
 tells-length (spans r) n w = absurd w
 tells-length (touch t) n w = absurd w
+tells-length (says t) n w = absurd w
 tells-length (wrote l) n w = record {
   refusals = not-refused (wrote l) (omega arith) (λ k e. no-wrote e);
   length = λ m. ((λ e. ap (λ (k : ℕ). 256 + k) (same-wrote e)), λ e. ap wrote (omega (arith, e)));
@@ -150,6 +159,7 @@ tells-touch (touch t) n w = record {
     parts k n e f =
         let (l, h) : Fair (wall k n) = rw e at f in
         rw e (omega (arith, l), omega (arith, l))
+tells-touch (says t) n w = absurd w
 tells-touch (wrote l) n w = absurd w
 
 -- a writing is answered by a refusal or a length
@@ -158,12 +168,18 @@ unfolding writes refuse
 writes-lengths b true bs buf = tt
 writes-lengths b false bs buf = tt
 
+-- so is the writing of the cuts
+tree-lengths : (b : Board) (o : Option Tree) (buf : List ℕ) → Lengths (writesTree b o buf .reply)
+unfolding writesTree
+tree-lengths b none buf = unfold refuse in tt
+tree-lengths b (some t) buf = writes-lengths b _ (writeTree t) buf
+
 -- a writing behind a step is read as what it is
 written-tells : (s : Step) (c : Call) → Numbered (s .reply) → ((b : Board) → Lengths (step b c .reply)) → TellsLength (code (then s c .reply)) (then s c .reply)
 written-tells s c n f = tells-length _ (then-numbered s c n) (then-any s c Lengths f (λ k e. tt))
 
 module _ (bs : List ℕ) where
-  -- where the load is refused, its number is one of 1 to 14
+  -- where the load is refused, its number is one of 1 to 15
   loaded : Numbered (step empty (loads bs) .reply)
   loaded = step-numbered empty (loads bs)
 
@@ -185,6 +201,15 @@ module _ (bs : List ℕ) where
         lengths : (b : Board) → Lengths (step b (writesRegister buf) .reply)
         lengths empty = unfold step refuse in tt
         lengths (holding j p) = unfold step in writes-lengths (holding j p) _ (writeRegister (register p)) buf
+
+    -- THE ANSWER OF `tirunoiwa_cuts`, READ
+    pub cuts-tells : TellsLength (code (cutsOfJob bs buf .reply)) (cutsOfJob bs buf .reply)
+    unfolding cutsOfJob
+    cuts-tells = written-tells (step empty (loads bs)) (writesCuts buf) loaded lengths
+      where
+        lengths : (b : Board) → Lengths (step b (writesCuts buf) .reply)
+        lengths empty = unfold step refuse in tt
+        lengths (holding j p) = unfold step in tree-lengths (holding j p) (planTree p) buf
 
     -- THE ANSWER OF `tirunoiwa_turned`, READ
     pub turned-tells : (u v : ℕ) → TellsLength (code (turnedOfJob bs u v buf .reply)) (turnedOfJob bs u v buf .reply)
@@ -224,6 +249,7 @@ behind-leaves (refusal l) b c k e = refl
 behind-leaves done b c k e = refused-leaves b c k e .same-buffer
 behind-leaves (spans r) b c k e = refused-leaves b c k e .same-buffer
 behind-leaves (touch t) b c k e = refused-leaves b c k e .same-buffer
+behind-leaves (says t) b c k e = refused-leaves b c k e .same-buffer
 behind-leaves (wrote n) b c k e = refused-leaves b c k e .same-buffer
 
 module _ (bs buf : List ℕ) (k : ℕ) where
@@ -236,6 +262,11 @@ module _ (bs buf : List ℕ) (k : ℕ) where
   pub walls-leaves : wallsOfJob bs buf .reply ≡ refusal k → wallsOfJob bs buf .buffer ≡ buf
   unfolding wallsOfJob then lent
   walls-leaves e = behind-leaves _ _ (writesRegister buf) k e
+
+  -- cuts that are refused leave the buffer as it was
+  pub cuts-leaves : cutsOfJob bs buf .reply ≡ refusal k → cutsOfJob bs buf .buffer ≡ buf
+  unfolding cutsOfJob then lent
+  cuts-leaves e = behind-leaves _ _ (writesCuts buf) k e
 
   -- a turned job that is refused leaves the buffer as it was
   pub turned-leaves : (u v : ℕ) → turnedOfJob bs u v buf .reply ≡ refusal k → turnedOfJob bs u v buf .buffer ≡ buf

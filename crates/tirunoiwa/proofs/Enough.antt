@@ -1,8 +1,9 @@
--- Buffers that always suffice: no plan takes more than 517 bytes, its walls no more than 504, no turned job more than 904, no star more than its job.
--- Assumes nothing.
-use Prim.Native.Nat.{ℕ, _+_, _≤_}
+-- Buffers that always suffice: no plan takes more than 517 bytes, its walls no more than 504, its cuts no more than 535, no turned job more than 904, no star
+-- more than its job. Assumes nothing.
+use Prim.Native.Nat.{ℕ, _+_, _*_, _≤_}
 use mathlib.Core.Path.{_≡_, refl, sym, ap, _∙_}
 use mathlib.Core.Bool.{Bool, true, false}
+use mathlib.Core.Option.{Option, none, some}
 use mathlib.Core.List.{List, _++_}
 use native.Mathlib.Omega.{arith}
 use borrow.Author.Tests.{le-leb}
@@ -14,13 +15,16 @@ use Rattle.floor.specs.Jobs.Facts.{is-room, room-is}
 use Rattle.floor.specs.Jobs.Raw.{Stretch, raw-star, raw-fails, raw-no-room}
 use Rattle.floor.specs.Plans.{Plan, Answer, refused, held, writePlan}
 use Rattle.floor.specs.Registers.{register, writeRegister}
+use Rattle.floor.specs.Cuts.{Tree, writeTree, planTree}
 use Rattle.floor.specs.Turns.{turn}
-use Rattle.floor.specs.Calls.{load, Board, empty, holding, Call, turns, writesJob, writesPlan, writesRegister, refusal, wrote, refuse, after, writes, step, Answers, ofLoad, ofTurn}
+use Rattle.floor.specs.Calls.{load, Board, empty, holding, Call, turns, writesJob, writesPlan, writesRegister, writesCuts, refusal, wrote, refuse, after, writes}
+use Rattle.floor.specs.Calls.{writesTree, step, Answers, ofLoad, ofTurn}
 use Rattle.floor.specs.Calls.Sound.{Sound, load-held, turn-held}
-use Rattle.floor.specs.Calls.Bytes.{job-length-most, plan-length-most}
+use Rattle.floor.specs.Calls.Bytes.{limits, job-length-most, plan-length-most}
 use Rattle.floor.specs.Calls.Registered.{register-length-most}
+use Rattle.floor.specs.Calls.Sliced.{so-many-bytes}
 use Rattle.floor.specs.Calls.Exact.{load-answers, turn-answers}
-use Rattle.floor.specs.Tracker.{behind, then, planOfJob, wallsOfJob, turnedOfJob, starOfJob}
+use Rattle.floor.specs.Tracker.{behind, then, planOfJob, wallsOfJob, cutsOfJob, turnedOfJob, starOfJob}
 use Rattle.tirunoiwa.proofs.Numbers.{same-refusal, upTo, among}
 
 -- what fits is written
@@ -49,6 +53,16 @@ turned-behind (held j p) u v buf n s h e =
     written-behind (holding j p) (turn j u v) ofTurn (writesJob buf) (unfold all in refl) (turn-answers j u v)
     (λ i q f. fits-written (holding i q) (writeJob i) buf 14 (omega (arith, h, job-length-most i q (turn-held j p u v i q (s j p refl) f)))) e
 
+-- the tree of a held plan, written to 535 bytes, is not refused with 14
+tree-fits : (j : Job) (p : Plan) → Sound j p → (buf : List ℕ) → 535 ≤ length buf → writesTree (holding j p) (planTree p) buf .reply ≡ refusal 14 → ⊥
+tree-fits j p s buf h e = go (planTree p) refl e
+  where
+    go : (o : Option Tree) → planTree p ≡ o → writesTree (holding j p) o buf .reply ≡ refusal 14 → ⊥
+    go none f e = unfold writesTree refuse in let z : _≡_ {A = ℕ} 15 14 = same-refusal e in omega arith
+    go (some t) f e =
+        unfold writesTree in
+        fits-written (holding j p) (writeTree t) buf 14 (omega (arith, h, so-many-bytes j p s t f, limits j p s .0)) e
+
 module _ (bs buf : List ℕ) where
   -- 517 BYTES SUFFICE for a plan
   pub plan-enough : 517 ≤ length buf → planOfJob bs buf .reply ≡ refusal 14 → ⊥
@@ -63,6 +77,13 @@ module _ (bs buf : List ℕ) where
   walls-enough h e =
       written-behind empty (load bs) ofLoad (writesRegister buf) (unfold all in refl) (load-answers bs)
       (λ j p f. fits-written (holding j p) (writeRegister (register p)) buf 14 (omega (arith, h, register-length-most j p (load-held bs j p f .1)))) e
+
+  -- 535 BYTES SUFFICE for the cuts
+  pub cuts-enough : 535 ≤ length buf → cutsOfJob bs buf .reply ≡ refusal 14 → ⊥
+  unfolding cutsOfJob step
+  cuts-enough h e =
+      written-behind empty (load bs) ofLoad (writesCuts buf) (unfold all in refl) (load-answers bs)
+      (λ j p f. tree-fits j p (load-held bs j p f .1) buf h) e
 
   -- 904 BYTES SUFFICE for a turned job
   pub turned-enough : (u v : ℕ) → 904 ≤ length buf → turnedOfJob bs u v buf .reply ≡ refusal 14 → ⊥

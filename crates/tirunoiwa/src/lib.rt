@@ -1,7 +1,7 @@
 // The planner for other programs: plain functions over a job's bytes. No board is kept between two calls.
 ghost use mathlib.Core.Path.{_≡_};
 ghost use Rattle.floor.specs.Calls.{empty, loads, step};
-ghost use Rattle.floor.specs.Tracker.{planOfJob, wallsOfJob, turnedOfJob, touchOfJob, starOfJob, code};
+ghost use Rattle.floor.specs.Tracker.{planOfJob, wallsOfJob, cutsOfJob, turnedOfJob, touchOfJob, starOfJob, code};
 ghost use Rattle.tirunoiwa.specs.Left.{Left};
 use board::Board;
 
@@ -62,6 +62,22 @@ pub extern "C" fn tirunoiwa_walls(job: &[u8], out: &mut [u8]) -> usize
     }
     let held = planned.board;
     let written = held.write_walls(out);
+    let reply = written.reply;
+    answer::code_of(reply)
+}
+
+// The tree of cuts of a job's plan, written to a lent buffer.
+#[no_mangle]
+pub extern "C" fn tirunoiwa_cuts(job: &[u8], out: &mut [u8]) -> usize
+    ensures { λ r. ⌜ (r ≡ code (cutsOfJob (now (job .entry)) (now (out .entry)) .reply))
+        × (now (out .exit) ≡ cutsOfJob (now (job .entry)) (now (out .entry)) .buffer) ⌝ }
+{
+    let loaded = load(job);
+    if loaded.answer < FIRST_VALUE {
+        return loaded.answer;
+    }
+    let held = loaded.board;
+    let written = held.write_cuts(out);
     let reply = written.reply;
     answer::code_of(reply)
 }

@@ -1,5 +1,5 @@
-//! Puts many jobs and calls to the reference and to the built programs `calls`, `listing`, `doors`, `walls_list` and `draw`, and compares every
-//! line.
+//! Puts many jobs and calls to the reference and to the built programs `calls`, `listing`, `doors`, `walls_list`, `cuts_list` and `draw`, and
+//! compares every line.
 
 mod alone;
 mod circle;
@@ -19,6 +19,7 @@ mod table;
 mod tests;
 
 use floors::Chance;
+use picture::Marked;
 use planner::{hex, OneJob};
 use programs::UnderTest;
 use reference::Board;
@@ -29,7 +30,7 @@ use streams::{make_stream, Budget};
 use table::Table;
 
 const USAGE: &str = "differ [--short | --long] [--seed N] [--jobs N] [--calls N] [--pairs N] \
-    [--listings N] [--doors N] [--walls N] [--pictures N] [--runner PATH] [--slip NAME] [--reference]";
+    [--listings N] [--doors N] [--walls N] [--cuts N] [--pictures N] [--runner PATH] [--slip NAME] [--reference]";
 
 struct Options {
     seed: u64,
@@ -39,6 +40,7 @@ struct Options {
     listings: usize,
     doors: usize,
     walls: usize,
+    cuts: usize,
     pictures: usize,
     under_test: UnderTest,
 }
@@ -50,7 +52,7 @@ fn main() -> ExitCode {
     };
     let begun = Instant::now();
     println!(
-        "seed {}, {} jobs, {} other calls, {} pairs of starts, {} listings, {} lists of doors, {} of walls, {} pictures",
+        "seed {}, {} jobs, {} other calls, {} pairs of starts, {} listings, {} lists of doors, {} of walls, {} of cuts, {} pictures",
         options.seed,
         options.jobs,
         options.calls,
@@ -58,6 +60,7 @@ fn main() -> ExitCode {
         options.listings,
         options.doors,
         options.walls,
+        options.cuts,
         options.pictures
     );
     let mut table = Table::default();
@@ -66,6 +69,7 @@ fn main() -> ExitCode {
         && compare_told(&options, OneJob::Listing, options.listings, &mut table)
         && compare_told(&options, OneJob::Doors, options.doors, &mut table)
         && compare_told(&options, OneJob::Walls, options.walls, &mut table)
+        && compare_told(&options, OneJob::Cuts, options.cuts, &mut table)
         && compare_pictures(&options, &mut table);
     table.print();
     println!(
@@ -91,6 +95,7 @@ fn read_options() -> Option<Options> {
         listings: 300,
         doors: 300,
         walls: 300,
+        cuts: 300,
         pictures: 200,
         under_test: UnderTest::Runner("../bin/run".to_string()),
     };
@@ -102,7 +107,8 @@ fn read_options() -> Option<Options> {
                 (options.jobs, options.calls) = (400_000, 600_000);
                 options.pairs = 10_000;
                 (options.listings, options.doors) = (3_000, 3_000);
-                (options.walls, options.pictures) = (3_000, 2_000);
+                (options.walls, options.cuts) = (3_000, 3_000);
+                options.pictures = 2_000;
             }
             "--seed" => options.seed = words.next()?.parse().ok()?,
             "--jobs" => options.jobs = words.next()?.parse().ok()?,
@@ -111,6 +117,7 @@ fn read_options() -> Option<Options> {
             "--listings" => options.listings = words.next()?.parse().ok()?,
             "--doors" => options.doors = words.next()?.parse().ok()?,
             "--walls" => options.walls = words.next()?.parse().ok()?,
+            "--cuts" => options.cuts = words.next()?.parse().ok()?,
             "--pictures" => options.pictures = words.next()?.parse().ok()?,
             "--runner" => options.under_test = UnderTest::Runner(words.next()?),
             "--reference" => options.under_test = UnderTest::Reference,
@@ -193,24 +200,41 @@ fn compare_told(options: &Options, program: OneJob, rounds: usize, table: &mut T
     true
 }
 
-/// A picture shows what the listing says, rectangle by rectangle; where there is no plan, it is the listing.
+/// A picture shows what the listing says, rectangle by rectangle; where there is no plan, it is the listing. A planner in plain Rust draws nothing: what it
+/// tells stands for the picture.
 fn compare_pictures(options: &Options, table: &mut Table) -> bool {
     let mut chance = Chance::new(options.seed ^ 0x6472_6177);
     for round in 0..options.pictures {
         let job = listing_job(&mut chance, round);
-        let expected = OneJob::Listing.text(&mut Board::empty(), &job);
-        table.count_picture(&expected);
+        let marked = *chance.pick(&[Marked::Walls, Marked::Cuts]);
+        let expected = picture_text(marked, |program| program.text(&mut Board::empty(), &job));
+        table.count_picture(marked, &expected);
         let name = picture_name(&mut chance);
-        let shown = options.under_test.picture(&name, &job);
-        let found = picture::listing_shown(&shown, &name, &job);
+        let asked = picture::asked(marked, chance.percent(50), &name, &job);
+        let tell = |program| options.under_test.told(program, &job);
+        let shown = options.under_test.picture(&asked);
+        let shown = shown.unwrap_or_else(|| picture_text(marked, tell));
+        let found = picture::listing_shown(&shown, marked, &name, &job);
         if found.as_ref() != Ok(&expected) {
             println!("difference in a picture of {} bytes:", job.len());
-            println!("  {}", hex(&job));
+            println!("  {}", hex(&asked));
             println!("reference:\n{expected}picture:\n{found:?}");
             return false;
         }
     }
     true
+}
+
+/// What a picture shows: the listing, but with cuts the refusal of a floor that has none.
+fn picture_text(marked: Marked, tell: impl Fn(OneJob) -> String) -> String {
+    let cuts = match marked {
+        Marked::Walls => String::new(),
+        Marked::Cuts => tell(OneJob::Cuts),
+    };
+    if cuts.starts_with("refused") {
+        return cuts;
+    }
+    tell(OneJob::Listing)
 }
 
 /// No name, a plain one, or bytes of any kind, which are no text or mean something to a picture.

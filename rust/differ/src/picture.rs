@@ -1,21 +1,30 @@
 //! The listing that a picture shows: every rectangle read back from its ground, its outline, its title and its label, which have to agree; and
-//! what else a picture owes: everything inside it, neighbours in different tints, every wall marked, every line numbered at both ends, and the
-//! job it shows.
+//! what else a picture owes: everything inside it, neighbours in different tints, every wall marked or every cut numbered, every line numbered at both
+//! ends, and the job it shows.
 
 use crate::marks::check_marks;
 use reference::drawing::{Plan, Rectangle};
+use reference::fields::put_field;
 
 const TOP: usize = 68;
 const MARGIN: usize = 40;
 const WORDS_ROOM: usize = 480;
 const FRAME: &str = "#dcdcdc";
 const NAME_TAG: u8 = b'n';
+const CUTS_TAG: u8 = b'c';
 const SIDES: [(&str, &str); 4] = [
     ("north side", "N"),
     ("west side", "W"),
     ("south side", "S"),
     ("east side", "E"),
 ];
+
+/// What is marked on the lines of a picture.
+#[derive(Clone, Copy, Debug, PartialEq, Eq)]
+pub enum Marked {
+    Walls,
+    Cuts,
+}
 
 /// Where a sheet stands in its picture.
 pub struct Sheet {
@@ -67,18 +76,29 @@ pub struct Words {
     pub says: String,
 }
 
-/// A name in front of a job, as the program that draws takes it.
-pub fn with_name(name: &[u8], job: &[u8]) -> Vec<u8> {
-    let length = u16::try_from(name.len()).expect("a short name");
-    let mut bytes = vec![NAME_TAG];
-    bytes.extend(length.to_be_bytes());
-    bytes.extend(name);
+/// A job with what is asked for in front of it, as the program that draws takes it; the cuts before the name or behind it.
+pub fn asked(marked: Marked, cuts_first: bool, name: &[u8], job: &[u8]) -> Vec<u8> {
+    let mut bytes = Vec::new();
+    if marked == Marked::Cuts && cuts_first {
+        put_field(&mut bytes, CUTS_TAG, &[]);
+    }
+    if !name.is_empty() {
+        put_field(&mut bytes, NAME_TAG, name);
+    }
+    if marked == Marked::Cuts && !cuts_first {
+        put_field(&mut bytes, CUTS_TAG, &[]);
+    }
     bytes.extend(job);
     bytes
 }
 
 /// A text that is no picture stands for itself, as a refusal does.
-pub fn listing_shown(picture: &str, name: &[u8], job: &[u8]) -> Result<String, String> {
+pub fn listing_shown(
+    picture: &str,
+    marked: Marked,
+    name: &[u8],
+    job: &[u8],
+) -> Result<String, String> {
     if !picture.starts_with("<svg") {
         return Ok(picture.to_string());
     }
@@ -86,7 +106,7 @@ pub fn listing_shown(picture: &str, name: &[u8], job: &[u8]) -> Result<String, S
     let sheet = Sheet::new(width, height);
     check_size(picture, &sheet)?;
     check_bounds(picture, &sheet)?;
-    check_words(picture, &sheet, name, job)?;
+    check_words(picture, &sheet, marked, name, job)?;
     let grounds: Vec<&str> = lines_starting(picture, "<rect x=");
     let groups: Vec<&str> = lines_starting(picture, "<g>");
     if grounds.len() != groups.len() {
@@ -111,7 +131,7 @@ pub fn listing_shown(picture: &str, name: &[u8], job: &[u8]) -> Result<String, S
         text.push_str(&format!("{vertex} {x1} {y1} {x2} {y2}\n"));
     }
     check_tints(&painted)?;
-    check_marks(picture, &sheet, &plan_of(&sheet, &painted), &labels)?;
+    check_marks(picture, &sheet, &plan_of(&sheet, &painted), marked, &labels)?;
     Ok(text)
 }
 
@@ -253,13 +273,19 @@ pub fn words_of(element: &str) -> Result<Words, String> {
     read().ok_or(format!("a text: {element:.60}"))
 }
 
-/// The texts beside those of rectangles and walls are these and no others: which job it is, how it is read, and each line's number at both its ends.
-fn check_words(picture: &str, sheet: &Sheet, name: &[u8], job: &[u8]) -> Result<(), String> {
+/// The texts beside those of rectangles and marks are these and no others: which job it is, how it is read, and each line's number at both its ends.
+fn check_words(
+    picture: &str,
+    sheet: &Sheet,
+    marked: Marked,
+    name: &[u8],
+    job: &[u8],
+) -> Result<(), String> {
     let mut found = Vec::new();
     for line in picture.lines().filter(|line| !line.starts_with("<g")) {
         found.extend(all_words(line)?);
     }
-    let mut expected = told(sheet, name, job);
+    let mut expected = told(sheet, marked, name, job);
     expected.extend(line_numbers(sheet));
     found.sort();
     expected.sort();
@@ -271,8 +297,12 @@ fn check_words(picture: &str, sheet: &Sheet, name: &[u8], job: &[u8]) -> Result<
 }
 
 /// The words above and below the sheet.
-fn told(sheet: &Sheet, name: &[u8], job: &[u8]) -> Vec<Words> {
+fn told(sheet: &Sheet, marked: Marked, name: &[u8], job: &[u8]) -> Vec<Words> {
     let bottom = sheet.down(0);
+    let marks = match marked {
+        Marked::Walls => "Walls are marked as in the joiner's list: W upright, L level.",
+        Marked::Cuts => "White on black: straight cuts, in the order in which they are made.",
+    };
     let lines = [
         (16, 12, name_shown(name)),
         (
@@ -299,11 +329,7 @@ fn told(sheet: &Sheet, name: &[u8], job: &[u8]) -> Vec<Words> {
                 sheet.height - 1
             ),
         ),
-        (
-            bottom + 56,
-            11,
-            "Walls are marked as in the joiner's list: W upright, L level.".into(),
-        ),
+        (bottom + 56, 11, marks.into()),
         (
             bottom + 69,
             11,

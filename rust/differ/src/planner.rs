@@ -1,5 +1,6 @@
 //! What the calls program and the programs of one job must print, worked out with any planner: the reference, or one with a slip.
 
+use reference::cuts::Part;
 use reference::doors::Door;
 use reference::drawing::{Rectangle, Touch};
 use reference::fields::{Field, Reader};
@@ -14,6 +15,8 @@ pub const WRITE_JOB: u8 = 36;
 pub const WRITE_PLAN: u8 = 37;
 pub const STAR: u8 = 38;
 pub const WRITE_WALLS: u8 = 39;
+pub const SLICEABLE: u8 = 40;
+pub const WRITE_CUTS: u8 = 41;
 
 pub const LARGEST_BUFFER: usize = 2_048;
 pub const LONGEST_JOB: usize = 8_192;
@@ -27,9 +30,12 @@ pub trait Planner {
     fn touch(&self, one: usize, other: usize) -> Result<Option<Touch>, Refusal>;
     fn doors(&self) -> Result<Vec<Door>, Refusal>;
     fn walls(&self) -> Result<Vec<Wall>, Refusal>;
+    fn sliceable(&self) -> Result<bool, Refusal>;
+    fn cuts(&self) -> Result<Vec<Part>, Refusal>;
     fn write_job(&self, buffer: &mut [u8]) -> Result<usize, Refusal>;
     fn write_plan(&self, buffer: &mut [u8]) -> Result<usize, Refusal>;
     fn write_walls(&self, buffer: &mut [u8]) -> Result<usize, Refusal>;
+    fn write_cuts(&self, buffer: &mut [u8]) -> Result<usize, Refusal>;
     fn star<'a>(&self, bytes: &'a [u8], room: usize) -> &'a [u8];
 }
 
@@ -52,6 +58,12 @@ impl Planner for Board {
     fn walls(&self) -> Result<Vec<Wall>, Refusal> {
         Board::walls(self)
     }
+    fn sliceable(&self) -> Result<bool, Refusal> {
+        Board::sliceable(self)
+    }
+    fn cuts(&self) -> Result<Vec<Part>, Refusal> {
+        Board::cuts(self)
+    }
     fn write_job(&self, buffer: &mut [u8]) -> Result<usize, Refusal> {
         Board::write_job(self, buffer)
     }
@@ -60,6 +72,9 @@ impl Planner for Board {
     }
     fn write_walls(&self, buffer: &mut [u8]) -> Result<usize, Refusal> {
         Board::write_walls(self, buffer)
+    }
+    fn write_cuts(&self, buffer: &mut [u8]) -> Result<usize, Refusal> {
+        Board::write_cuts(self, buffer)
     }
     fn star<'a>(&self, bytes: &'a [u8], room: usize) -> &'a [u8] {
         reference::star(bytes, room)
@@ -77,7 +92,7 @@ pub struct Answer {
 pub enum Outcome {
     Accepted,
     Refused(u8),
-    /// Nothing to tell: a star that is an empty stretch, or no shared wall.
+    /// Nothing to tell: a star that is an empty stretch, no shared wall, or no way to cut a floor.
     Empty,
 }
 
@@ -130,7 +145,11 @@ fn answer_call(planner: &mut dyn Planner, field: Field) -> Option<Answer> {
             let [one, other] = numbers(field.value)?;
             touched(planner.touch(one, other))
         }
-        WRITE_JOB | WRITE_PLAN | WRITE_WALLS => {
+        SLICEABLE => {
+            let [] = numbers(field.value)?;
+            sliced(planner.sliceable())
+        }
+        WRITE_JOB | WRITE_PLAN | WRITE_WALLS | WRITE_CUTS => {
             let [size] = numbers(field.value)?;
             written(planner, tag, size)?
         }
@@ -183,6 +202,14 @@ fn touched(answer: Result<Option<Touch>, Refusal>) -> (Outcome, String) {
     }
 }
 
+fn sliced(answer: Result<bool, Refusal>) -> (Outcome, String) {
+    match answer {
+        Ok(true) => (Outcome::Accepted, "yes".to_string()),
+        Ok(false) => (Outcome::Empty, "no".to_string()),
+        Err(refusal) => refused(refusal),
+    }
+}
+
 fn written(planner: &mut dyn Planner, tag: u8, size: usize) -> Option<(Outcome, String)> {
     if size > LARGEST_BUFFER {
         return None;
@@ -191,7 +218,8 @@ fn written(planner: &mut dyn Planner, tag: u8, size: usize) -> Option<(Outcome, 
     let answer = match tag {
         WRITE_JOB => planner.write_job(&mut buffer),
         WRITE_PLAN => planner.write_plan(&mut buffer),
-        _ => planner.write_walls(&mut buffer),
+        WRITE_WALLS => planner.write_walls(&mut buffer),
+        _ => planner.write_cuts(&mut buffer),
     };
     Some(refused_or(answer, |length| {
         format!("wrote {length} {}", hex(&buffer))
@@ -204,6 +232,7 @@ pub enum OneJob {
     Listing,
     Doors,
     Walls,
+    Cuts,
 }
 
 impl OneJob {
@@ -213,6 +242,7 @@ impl OneJob {
             OneJob::Listing => "listing",
             OneJob::Doors => "doors",
             OneJob::Walls => "walls_list",
+            OneJob::Cuts => "cuts_list",
         }
     }
 
@@ -227,15 +257,21 @@ impl OneJob {
         if bytes.len() > LONGEST_JOB {
             return "input too long\n".to_string();
         }
-        let answer = planner.load(bytes);
-        if answer.is_err() {
-            return sheet(answer).1 + "\n";
+        match self.lines(planner, bytes) {
+            Ok(lines) => lines,
+            Err(refusal) => refused(refusal).1 + "\n",
         }
-        match self {
-            OneJob::Listing => sheet(answer).1 + "\n" + &rectangle_lines(planner),
-            OneJob::Doors => refused_or(planner.doors(), |doors| door_lines(&doors)).1,
-            OneJob::Walls => refused_or(planner.walls(), |walls| wall_lines(&walls)).1,
-        }
+    }
+
+    /// The lines of a job that is not refused.
+    fn lines(self, planner: &mut dyn Planner, bytes: &[u8]) -> Result<String, Refusal> {
+        let (width, height) = planner.load(bytes)?;
+        Ok(match self {
+            OneJob::Listing => format!("sheet {width} {height}\n") + &rectangle_lines(planner),
+            OneJob::Doors => planner.doors()?.iter().map(door_line).collect(),
+            OneJob::Walls => planner.walls()?.iter().map(wall_line).collect(),
+            OneJob::Cuts => planner.cuts()?.iter().map(part_line).collect(),
+        })
     }
 }
 
@@ -246,25 +282,27 @@ fn rectangle_lines(planner: &dyn Planner) -> String {
         .collect()
 }
 
-fn door_lines(doors: &[Door]) -> String {
-    let line = |door: &Door| {
-        let Touch { side, length } = door.touch;
-        format!(
-            "{} {} {side} {} {} {length}\n",
-            door.u, door.v, door.from, door.to
-        )
-    };
-    doors.iter().map(line).collect()
+fn door_line(door: &Door) -> String {
+    let Touch { side, length } = door.touch;
+    format!(
+        "{} {} {side} {} {} {length}\n",
+        door.u, door.v, door.from, door.to
+    )
 }
 
-fn wall_lines(walls: &[Wall]) -> String {
-    let line = |w: &Wall| {
-        format!(
-            "{} {} {} {} {}\n",
-            w.direction, w.number, w.beginning, w.end, w.sides
-        )
-    };
-    walls.iter().map(line).collect()
+fn wall_line(w: &Wall) -> String {
+    format!(
+        "{} {} {} {} {}\n",
+        w.direction, w.number, w.beginning, w.end, w.sides
+    )
+}
+
+/// Direction and place of a cut, or a room alone.
+fn part_line(part: &Part) -> String {
+    match part {
+        Part::Cut(cut) => format!("{} {}\n", cut.direction, cut.place),
+        Part::Leaf(room) => format!("{room}\n"),
+    }
 }
 
 pub fn hex(bytes: &[u8]) -> String {

@@ -1,6 +1,5 @@
 //! The planner under test: the built programs, or, to try the comparison itself, a planner with a known slip or with none.
 
-use crate::picture::with_name;
 use crate::planner::{calls_text, OneJob};
 use crate::slips::{Slip, SlippedBoard};
 use reference::Board;
@@ -37,12 +36,11 @@ impl UnderTest {
         }
     }
 
-    /// A planner in plain Rust draws nothing; its listing stands for the picture.
-    pub fn picture(&self, name: &[u8], job: &[u8]) -> String {
+    /// The picture of a job with what is asked for in front of it. A planner in plain Rust draws nothing, and has none.
+    pub fn picture(&self, asked: &[u8]) -> Option<String> {
         match self {
-            UnderTest::Runner(path) if name.is_empty() => run(path, "draw", job),
-            UnderTest::Runner(path) => run(path, "draw", &with_name(name, job)),
-            UnderTest::Slipped(_) | UnderTest::Reference => self.told(OneJob::Listing, job),
+            UnderTest::Runner(path) => Some(run(path, "draw", asked)),
+            UnderTest::Slipped(_) | UnderTest::Reference => None,
         }
     }
 }

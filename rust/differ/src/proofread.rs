@@ -1,5 +1,6 @@
 //! Demand 3 held against the reference itself, cell by cell, so that a comparison with it means something.
 
+use reference::cuts;
 use reference::drawing::{touch, within_bound, Plan, Touch};
 use reference::job::{Entry, Job};
 use reference::register::{register, Wall, LEVEL, UPRIGHT};
@@ -29,6 +30,9 @@ pub fn plan_fault(job: &Job, plan: &Plan) -> Option<&'static str> {
     }
     if register(plan) != walls_by_contacts(job, plan) {
         return Some("the register has other walls than the contacts join");
+    }
+    if cuts::sliceable(plan) != cut_as_they_come(plan) {
+        return Some("whether the floor comes apart depends on which cut is taken first");
     }
     if !job
         .rooms()
@@ -224,4 +228,24 @@ fn add_side(wall: &mut Wall, side: &Wall) {
     wall.beginning = wall.beginning.min(side.beginning);
     wall.end = wall.end.max(side.end);
     wall.sides += 1;
+}
+
+/// The last cut that there is, always, and never another: a floor is sliceable if this ends with rooms alone.
+fn cut_as_they_come(plan: &Plan) -> bool {
+    let mut waiting = vec![cuts::all_rooms(plan)];
+    while let Some(rooms) = waiting.pop() {
+        if rooms.len() > 1 {
+            let mut all = cuts::cuts(plan, &rooms);
+            let one_way = all
+                .windows(2)
+                .all(|two| two[0].direction == two[1].direction);
+            assert!(one_way, "two cuts cross, where four rooms would meet");
+            let Some(cut) = all.pop() else {
+                return false;
+            };
+            let (one, other) = cuts::parted(plan, &rooms, cut);
+            waiting.extend([one, other]);
+        }
+    }
+    true
 }

@@ -2,11 +2,12 @@
 
 use crate::circle::{kinds_of, list, places};
 use crate::planner::Planner;
+use reference::cuts::{self, cuts, tree_by, Cut, Part};
 use reference::doors::{doors_by, Door};
 use reference::drawing::{draw, faults, in_order, meet_only_at_a_corner, place, touch};
 use reference::drawing::{Faults, Plan, Rectangle, Touch};
 use reference::job::{changes, goes_on, nobody_twice, read_by, star_is_fit, Job, Star};
-use reference::register::{self, register, Wall, UPRIGHT};
+use reference::register::{self, register, Wall, LEVEL, UPRIGHT};
 use reference::turning::turned;
 use reference::walls::{number_walls, WallNumbers};
 use reference::{Board, Refusal, ABOVE, BELOW, FIRST_ROOM, LEFT, RIGHT};
@@ -58,6 +59,18 @@ pub enum Slip {
     RegisterKept,
     /// Level walls come first.
     LevelFirst,
+    /// The rightmost upright cut is taken first.
+    RightmostFirst,
+    /// The highest level cut is taken first.
+    HighestFirst,
+    /// The right or upper part is written before the other.
+    OtherPartFirst,
+    /// A cut may pass through a room.
+    CutThroughRoom,
+    /// A cut's place is counted from where the rooms begin.
+    PlaceFromRooms,
+    /// Of a floor that is not sliceable, 14 before 15.
+    FourteenFirst,
     /// Numbers cut to one byte.
     OneByteNumbers,
     /// The buffer behind the bytes is cleared.
@@ -88,7 +101,7 @@ pub enum Slip {
     OrderNotClosed,
 }
 
-pub const ALL: [Slip; 38] = [
+pub const ALL: [Slip; 44] = [
     Slip::RoomsOnly,
     Slip::AreaAlone,
     Slip::NoArea,
@@ -113,6 +126,12 @@ pub const ALL: [Slip; 38] = [
     Slip::LengthForEnd,
     Slip::RegisterKept,
     Slip::LevelFirst,
+    Slip::RightmostFirst,
+    Slip::HighestFirst,
+    Slip::OtherPartFirst,
+    Slip::CutThroughRoom,
+    Slip::PlaceFromRooms,
+    Slip::FourteenFirst,
     Slip::OneByteNumbers,
     Slip::ClearsBehind,
     Slip::WantsOneMore,
@@ -155,6 +174,16 @@ pub const OF_WALLS: [Slip; 4] = [
     Slip::FrameSideCounted,
     Slip::LengthForEnd,
     Slip::LevelFirst,
+];
+
+/// Those that the cuts of one job show as well.
+#[cfg(test)]
+pub const OF_CUTS: [Slip; 5] = [
+    Slip::RightmostFirst,
+    Slip::HighestFirst,
+    Slip::OtherPartFirst,
+    Slip::CutThroughRoom,
+    Slip::PlaceFromRooms,
 ];
 
 pub struct SlippedBoard {
@@ -268,6 +297,20 @@ impl SlippedBoard {
         walls
     }
 
+    /// The cut that is taken of those that there are. They are of one direction: two that cross would make four rooms meet at a point. So
+    /// "level before upright" is no slip that could show.
+    fn chosen_cut(&self, plan: &Plan, rooms: &[usize]) -> Cut {
+        let all = cuts(plan, rooms);
+        let last_of = |direction: u8| all.last().filter(|cut| cut.direction == direction);
+        let chosen = match self.slip {
+            Slip::RightmostFirst => last_of(UPRIGHT).or(all.first()),
+            Slip::HighestFirst => last_of(LEVEL).or(all.first()),
+            _ => all.first(),
+        };
+        let chosen = chosen.copied();
+        chosen.unwrap_or_else(|| cut_through(plan, rooms))
+    }
+
     fn number(&self, number: usize) -> usize {
         if self.slip == Slip::OneByteNumbers {
             number % 256
@@ -375,6 +418,37 @@ fn count_frame(plan: &Plan, wall: &mut Wall) {
         _ => plan.height - 1,
     };
     wall.sides += usize::from(wall.number == 1 || wall.number == last);
+}
+
+/// Where the last rooms begin, whatever lies across: to the right if they do not all begin on one line, else upward.
+fn cut_through(plan: &Plan, rooms: &[usize]) -> Cut {
+    let beginnings = |direction| rooms.iter().map(move |&r| cuts::span(plan, r, direction).0);
+    let upright = beginnings(UPRIGHT).min() != beginnings(UPRIGHT).max();
+    let direction = if upright { UPRIGHT } else { LEVEL };
+    let place = beginnings(direction).max().expect("there are rooms");
+    Cut { direction, place }
+}
+
+/// A cut with its place counted from where the rooms begin.
+fn from_rooms(part: Part) -> Part {
+    match part {
+        Part::Cut(Cut { direction, place }) => Part::Cut(Cut {
+            direction,
+            place: place - 1,
+        }),
+        leaf => leaf,
+    }
+}
+
+/// The tree with the two parts of each cut exchanged.
+fn other_part_first(parts: &mut dyn Iterator<Item = Part>) -> Vec<Part> {
+    match parts.next().expect("a tree has a root") {
+        Part::Cut(cut) => {
+            let (one, other) = (other_part_first(parts), other_part_first(parts));
+            [vec![Part::Cut(cut)], other, one].concat()
+        }
+        leaf => vec![leaf],
+    }
 }
 
 /// Every entry where it stands, with the kind that the other job gives it.
@@ -508,6 +582,32 @@ impl Planner for SlippedBoard {
         self.held()?;
         let plan = self.walled.as_ref().ok_or(Refusal(10))?;
         Ok(self.walls_of(plan))
+    }
+
+    fn sliceable(&self) -> Result<bool, Refusal> {
+        let (_, plan) = self.held()?;
+        Ok(self.slip == Slip::CutThroughRoom || cuts::sliceable(plan))
+    }
+
+    fn cuts(&self) -> Result<Vec<Part>, Refusal> {
+        let (_, plan) = self.held()?;
+        if !self.sliceable()? {
+            return Err(Refusal(15));
+        }
+        let parts = tree_by(plan, |rooms| self.chosen_cut(plan, rooms));
+        Ok(match self.slip {
+            Slip::OtherPartFirst => other_part_first(&mut parts.into_iter()),
+            Slip::PlaceFromRooms => parts.into_iter().map(from_rooms).collect(),
+            _ => parts,
+        })
+    }
+
+    fn write_cuts(&self, buffer: &mut [u8]) -> Result<usize, Refusal> {
+        let (job, _) = self.held()?;
+        if self.slip == Slip::FourteenFirst && buffer.len() < 9 * job.stars.len() - 5 {
+            return Err(Refusal(14));
+        }
+        self.write(cuts::bytes(&self.cuts()?), buffer)
     }
 
     fn write_walls(&self, buffer: &mut [u8]) -> Result<usize, Refusal> {

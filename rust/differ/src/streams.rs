@@ -1,10 +1,8 @@
 //! Streams of calls, made while the reference answers them, so that later calls can aim at what is held.
 
 use crate::damage::any_job;
-use crate::planner::{
-    answer_stream, Outcome, LARGEST_BUFFER, LOAD, RECTANGLE, STAR, TOUCH, TURN, WRITE_JOB,
-    WRITE_PLAN, WRITE_WALLS,
-};
+use crate::planner::{answer_stream, Outcome, LARGEST_BUFFER, LOAD, RECTANGLE, SLICEABLE, STAR};
+use crate::planner::{TOUCH, TURN, WRITE_CUTS, WRITE_JOB, WRITE_PLAN, WRITE_WALLS};
 use crate::proofread::plan_fault;
 use crate::table::Table;
 use floors::Chance;
@@ -84,12 +82,14 @@ impl Maker {
             };
         }
         match chance.below(100) {
-            0..=44 => self.turn(chance),
-            45..=58 => call(RECTANGLE, &two(self.some_vertex(chance))),
-            59..=77 => self.touch(chance),
-            78..=84 => self.writing(chance, WRITE_JOB),
-            85..=90 => self.writing(chance, WRITE_PLAN),
-            _ => self.writing(chance, WRITE_WALLS),
+            0..=39 => self.turn(chance),
+            40..=51 => call(RECTANGLE, &two(self.some_vertex(chance))),
+            52..=68 => self.touch(chance),
+            69..=74 => self.writing(chance, WRITE_JOB),
+            75..=79 => self.writing(chance, WRITE_PLAN),
+            80..=87 => self.writing(chance, WRITE_WALLS),
+            88..=91 => call(SLICEABLE, &[]),
+            _ => self.writing(chance, WRITE_CUTS),
         }
     }
 
@@ -252,7 +252,9 @@ impl Maker {
         Some(match tag {
             WRITE_JOB => job.bytes().len(),
             WRITE_PLAN => plan.bytes().len(),
-            _ => register::bytes(&register::register(plan)).len(),
+            WRITE_WALLS => register::bytes(&register::register(plan)).len(),
+            // So long where the floor comes apart, and as long a buffer where it does not.
+            _ => 9 * job.stars.len() - 5,
         })
     }
 
@@ -285,14 +287,14 @@ fn same_rooms(one: &[u8], other: &[u8]) -> bool {
 
 /// Bytes at whose first field, or soon after, a stream breaks; calls behind the break must stay unanswered.
 fn breaking_tail(chance: &mut Chance) -> Vec<u8> {
-    let mut tail = match chance.below(8) {
+    let mut tail = match chance.below(9) {
         0 => cut(chance, call(TURN, &four(4, 5))),
         1 => {
             let bytes = any_job(chance);
             cut(chance, call(LOAD, &bytes))
         }
         2 => call(
-            *chance.pick(&[0, 1, 2, 31, 40, 255, 32 + 128]),
+            *chance.pick(&[0, 1, 2, 31, 42, 255, 32 + 128]),
             &four(4, 5)[..chance.below(5)],
         ),
         3 => call(
@@ -300,14 +302,15 @@ fn breaking_tail(chance: &mut Chance) -> Vec<u8> {
             &[0, 4, 0, 5, 0, 6][..*chance.pick(&[0, 1, 2, 3, 5, 6])],
         ),
         4 => call(
-            *chance.pick(&[RECTANGLE, WRITE_JOB, WRITE_PLAN, WRITE_WALLS]),
+            *chance.pick(&[RECTANGLE, WRITE_JOB, WRITE_PLAN, WRITE_WALLS, WRITE_CUTS]),
             &[0, 4, 0, 5][..*chance.pick(&[0, 1, 3, 4])],
         ),
         5 => call(STAR, &[0, 4][..chance.below(2)]),
         6 => call(
-            *chance.pick(&[WRITE_JOB, WRITE_PLAN, WRITE_WALLS]),
+            *chance.pick(&[WRITE_JOB, WRITE_PLAN, WRITE_WALLS, WRITE_CUTS]),
             &two(*chance.pick(&[2_049, 2_050, 4_096, 65_535])),
         ),
+        7 => call(SLICEABLE, &[0, 0][..chance.between(1, 2)]),
         _ => (0..chance.between(1, 12)).map(|_| chance.byte()).collect(),
     };
     for _ in 0..chance.below(3) {

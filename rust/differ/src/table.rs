@@ -1,7 +1,8 @@
 //! How often each answer was seen.
 
-use crate::planner::{OneJob, Outcome, LOAD, RECTANGLE, STAR, TOUCH, TURN};
-use crate::planner::{WRITE_JOB, WRITE_PLAN, WRITE_WALLS};
+use crate::picture::Marked;
+use crate::planner::{OneJob, Outcome, LOAD, RECTANGLE, SLICEABLE, STAR, TOUCH, TURN};
+use crate::planner::{WRITE_CUTS, WRITE_JOB, WRITE_PLAN, WRITE_WALLS};
 use reference::drawing::Faults;
 use std::collections::BTreeMap;
 
@@ -16,12 +17,13 @@ pub struct Table {
     pairs: BTreeMap<String, u64>,
     /// Programs of one job, by name and by what came of it.
     told: BTreeMap<(&'static str, String), u64>,
+    /// Pictures, by what is marked on them and by what came of it.
     pictures: BTreeMap<String, u64>,
     pub turned_back: u64,
     pub plans_checked: u64,
 }
 
-const CALLS: [(u8, &str); 8] = [
+const CALLS: [(u8, &str); 10] = [
     (LOAD, "load"),
     (TURN, "turn"),
     (RECTANGLE, "rectangle"),
@@ -29,11 +31,13 @@ const CALLS: [(u8, &str); 8] = [
     (WRITE_JOB, "write job"),
     (WRITE_PLAN, "write plan"),
     (WRITE_WALLS, "walls"),
+    (SLICEABLE, "sliceable"),
+    (WRITE_CUTS, "cuts"),
     (STAR, "star"),
 ];
 
 /// The numbers of refusals; 8 is not used.
-const REFUSALS: [u8; 13] = [1, 2, 3, 4, 5, 6, 7, 9, 10, 11, 12, 13, 14];
+const REFUSALS: [u8; 14] = [1, 2, 3, 4, 5, 6, 7, 9, 10, 11, 12, 13, 14, 15];
 
 const ITEMS: [&str; 6] = ["outside", "overlap", "area", "unjoined", "corner", "order"];
 
@@ -68,8 +72,13 @@ impl Table {
         *self.told.entry(key).or_default() += 1;
     }
 
-    pub fn count_picture(&mut self, text: &str) {
-        *self.pictures.entry(first_words(text)).or_default() += 1;
+    pub fn count_picture(&mut self, marked: Marked, text: &str) {
+        let with = match marked {
+            Marked::Walls => "",
+            Marked::Cuts => " with cuts",
+        };
+        let name = format!("{}{with}", first_words(text));
+        *self.pictures.entry(name).or_default() += 1;
     }
 
     pub fn cases(&self) -> u64 {

@@ -3,16 +3,17 @@
 use crate::damage::finished_floor;
 use crate::listing_job;
 use crate::pairs::first_unlike;
-use crate::picture::listing_shown;
+use crate::picture::{listing_shown, Marked};
 use crate::planner::OneJob;
 use crate::programs::UnderTest;
 use crate::proofread::plan_fault;
 use crate::shrink::{both_texts, Shrinker};
-use crate::slips::{Slip, ALL, OF_STARTS, OF_TOUCHES, OF_WALLS};
+use crate::slips::{Slip, ALL, OF_CUTS, OF_STARTS, OF_TOUCHES, OF_WALLS};
 use crate::streams::{make_stream, Budget};
 use crate::table::Table;
 use floors::Chance;
-use reference::Board;
+use reference::drawing::draw;
+use reference::{cuts, Board};
 use std::ops::Range;
 
 /// The first stream in which the planner under test differs.
@@ -100,6 +101,28 @@ fn floors_from_geometry_are_accepted() {
 }
 
 #[test]
+fn a_slip_of_cuts_is_found_in_the_cuts_of_one_job() {
+    slips_show(&OF_CUTS, OneJob::Cuts);
+}
+
+/// W6: at least a third of the floors do not come apart by straight cuts, and many of those can be cut somewhere.
+#[test]
+fn a_third_of_the_floors_are_not_sliceable() {
+    let mut chance = Chance::new(5);
+    let (mut wholes, mut cut_somewhere) = (0, 0);
+    for _ in 0..2_000 {
+        let plan = draw(&finished_floor(&mut chance)).expect("accepted");
+        if !cuts::sliceable(&plan) {
+            wholes += 1;
+            let somewhere = !cuts::cuts(&plan, &cuts::all_rooms(&plan)).is_empty();
+            cut_somewhere += usize::from(somewhere);
+        }
+    }
+    assert!(3 * wholes >= 2_000, "only {wholes} of 2,000");
+    assert!(5 * cut_somewhere >= wholes, "{cut_somewhere} of {wholes}");
+}
+
+#[test]
 fn one_seed_gives_one_stream() {
     let make = |seed| {
         let mut budget = Budget {
@@ -113,11 +136,17 @@ fn one_seed_gives_one_stream() {
 }
 
 const PICTURE: &str = include_str!("../../../docs/pictures/F.svg");
+const CUT_PICTURE: &str = include_str!("../../../docs/pictures/F-cuts.svg");
 const JOB: &[u8] = include_bytes!("../../../examples/F.job");
 
 /// What a picture of F shows.
 fn shown(picture: &str) -> Result<String, String> {
-    listing_shown(picture, b"F.job", JOB)
+    listing_shown(picture, Marked::Walls, b"F.job", JOB)
+}
+
+/// What a picture of F with its cuts shows.
+fn shown_cut(picture: &str) -> Result<String, String> {
+    listing_shown(picture, Marked::Cuts, b"F.job", JOB)
 }
 
 #[test]
@@ -125,6 +154,9 @@ fn a_picture_shows_its_listing() {
     let expected = "sheet 4 5\n0 1 4 3 5\n1 0 0 1 5\n2 1 0 3 1\n3 3 0 4 5\n\
         4 1 3 2 4\n5 2 2 3 4\n6 1 1 2 3\n7 2 1 3 2\n";
     assert_eq!(shown(PICTURE).as_deref(), Ok(expected));
+    assert_eq!(shown_cut(CUT_PICTURE).as_deref(), Ok(expected));
+    assert!(shown(CUT_PICTURE).is_err());
+    assert!(shown_cut(PICTURE).is_err());
 }
 
 /// The parts of a picture's line that say where a rectangle, a mark or a text stands and what it is called.
@@ -166,27 +198,26 @@ fn telling_parts(line: &str) -> Vec<Range<usize>> {
     Vec::new()
 }
 
-fn telling_digits() -> Vec<usize> {
-    let starts = PICTURE.match_indices('\n').map(|(at, _)| at + 1);
+fn telling_digits(picture: &str) -> Vec<usize> {
+    let starts = picture.match_indices('\n').map(|(at, _)| at + 1);
     let parts = starts.flat_map(|at| {
-        let line = PICTURE[at..].lines().next().unwrap_or("");
+        let line = picture[at..].lines().next().unwrap_or("");
         telling_parts(line)
             .into_iter()
             .flatten()
             .map(move |i| at + i)
     });
     parts
-        .filter(|&i| PICTURE.as_bytes()[i].is_ascii_digit())
+        .filter(|&i| picture.as_bytes()[i].is_ascii_digit())
         .collect()
 }
 
-#[test]
-fn a_changed_digit_of_a_picture_is_noticed() {
-    let places = telling_digits();
+fn assert_digits_tell(picture: &str, shown: impl Fn(&str) -> Result<String, String>) {
+    let places = telling_digits(picture);
     assert!(places.len() > 100, "only {} digits", places.len());
-    let told = shown(PICTURE);
+    let told = shown(picture);
     for place in places {
-        let mut other = PICTURE.as_bytes().to_vec();
+        let mut other = picture.as_bytes().to_vec();
         other[place] = if other[place] == b'9' {
             b'8'
         } else {
@@ -197,25 +228,56 @@ fn a_changed_digit_of_a_picture_is_noticed() {
     }
 }
 
-/// The lines of the picture that hold a mark.
-fn marks() -> Vec<&'static str> {
-    PICTURE
+#[test]
+fn a_changed_digit_of_a_picture_is_noticed() {
+    assert_digits_tell(PICTURE, shown);
+    assert_digits_tell(CUT_PICTURE, shown_cut);
+}
+
+/// The lines of a picture that hold a mark.
+fn marks_of(picture: &str) -> Vec<&str> {
+    picture
         .split_inclusive('\n')
-        .filter(|line| line.starts_with("<g class=\"wall\""))
+        .filter(|line| line.starts_with("<g class="))
         .collect()
+}
+
+/// The marks of the walls.
+fn marks() -> Vec<&'static str> {
+    marks_of(PICTURE)
+}
+
+fn assert_marks_tell(picture: &str, many: usize, shown: impl Fn(&str) -> Result<String, String>) {
+    let marks = marks_of(picture);
+    assert_eq!(marks.len(), many);
+    for pair in marks.windows(2) {
+        let swapped = [pair[1], pair[0]].concat();
+        assert!(shown(&picture.replace(&pair.concat(), &swapped)).is_err());
+    }
+    for mark in marks {
+        assert!(shown(&picture.replace(mark, "")).is_err());
+        assert!(shown(&picture.replace(mark, &mark.repeat(2))).is_err());
+    }
 }
 
 #[test]
 fn a_mark_that_is_missing_doubled_or_out_of_order_is_noticed() {
-    let marks = marks();
-    assert_eq!(marks.len(), 7);
-    for pair in marks.windows(2) {
-        let swapped = [pair[1], pair[0]].concat();
-        assert!(shown(&PICTURE.replace(&pair.concat(), &swapped)).is_err());
-    }
-    for mark in marks {
-        assert!(shown(&PICTURE.replace(mark, "")).is_err());
-        assert!(shown(&PICTURE.replace(mark, &mark.repeat(2))).is_err());
+    assert_marks_tell(PICTURE, 7, shown);
+    assert_marks_tell(CUT_PICTURE, 3, shown_cut);
+}
+
+#[test]
+fn a_mark_of_the_other_kind_is_noticed() {
+    let first = marks()[0];
+    let cut = marks_of(CUT_PICTURE)[0];
+    assert!(shown(&PICTURE.replace(first, &[first, cut].concat())).is_err());
+    assert!(shown_cut(&CUT_PICTURE.replace(cut, &[cut, first].concat())).is_err());
+    for (from, to) in [
+        ("#000000", "#ffffff"),
+        ("fill=\"#ffffff\"", "fill=\"#000000\""),
+    ] {
+        assert!(cut.contains(from));
+        assert!(shown_cut(&CUT_PICTURE.replace(cut, &cut.replace(from, to))).is_err());
     }
 }
 
@@ -287,7 +349,7 @@ fn what_lies_outside_a_picture_is_noticed() {
 
 #[test]
 fn another_job_or_name_is_noticed() {
-    assert!(listing_shown(PICTURE, b"G.job", JOB).is_err());
-    assert!(listing_shown(PICTURE, b"", JOB).is_err());
-    assert!(listing_shown(PICTURE, b"F.job", &JOB[1..]).is_err());
+    assert!(listing_shown(PICTURE, Marked::Walls, b"G.job", JOB).is_err());
+    assert!(listing_shown(PICTURE, Marked::Walls, b"", JOB).is_err());
+    assert!(listing_shown(PICTURE, Marked::Walls, b"F.job", &JOB[1..]).is_err());
 }

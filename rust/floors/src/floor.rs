@@ -43,21 +43,30 @@ pub fn floor_of(chance: &mut Chance, rooms: usize) -> Job {
 }
 
 fn one_floor(chance: &mut Chance, rooms: usize) -> Floor {
-    match chance.below(12) {
+    match chance.below(15) {
         0..=2 => cut_floor(chance, rooms, FINE),
         3 => cut_floor(chance, rooms, 24),
         4..=7 => grown_floor(chance, rooms),
         8 => row(rooms),
         9..=10 => bricks(chance, rooms),
-        _ => nested_pinwheels(chance, rooms),
+        11 => nested_pinwheels(chance, rooms),
+        _ => sliced_pinwheel(chance, rooms),
     }
 }
 
-/// Cuts a random room again and again, in two or as a pinwheel of five.
 fn cut_floor(chance: &mut Chance, rooms: usize, grain: usize) -> Floor {
-    let whole = rectangle(0, 0, grain, grain);
-    let mut parts = vec![whole];
+    let mut parts = vec![rectangle(0, 0, grain, grain)];
     let pinwheels = *chance.pick(&[0, 20, 60]);
+    cut_on(chance, &mut parts, rooms, pinwheels);
+    Floor {
+        width: grain,
+        height: grain,
+        rooms: parts,
+    }
+}
+
+/// Cuts a random room again and again, in two or, so many times in a hundred, as a pinwheel of five.
+fn cut_on(chance: &mut Chance, parts: &mut Vec<Rectangle>, rooms: usize, pinwheels: usize) {
     let mut idle = 0;
     while parts.len() < rooms && idle < 200 {
         let chosen = chance.below(parts.len());
@@ -73,11 +82,6 @@ fn cut_floor(chance: &mut Chance, rooms: usize, grain: usize) -> Floor {
             parts.extend(pieces);
             idle = 0;
         }
-    }
-    Floor {
-        width: grain,
-        height: grain,
-        rooms: parts,
     }
 }
 
@@ -136,6 +140,22 @@ fn nested_pinwheels(chance: &mut Chance, rooms: usize) -> Floor {
         parts.pop();
         parts.extend(pieces);
     }
+    Floor {
+        width: FINE,
+        height: FINE,
+        rooms: parts,
+    }
+}
+
+/// Some slices, a pinwheel in one of them, and all that cut further: straight cuts take such a floor apart here and there, but never all of it.
+fn sliced_pinwheel(chance: &mut Chance, rooms: usize) -> Floor {
+    let mut parts = vec![rectangle(0, 0, FINE, FINE)];
+    // Five rooms are left for the pinwheel, where there are so many.
+    let slices = chance.below(rooms.saturating_sub(4).clamp(1, 7));
+    cut_on(chance, &mut parts, 1 + slices, 0);
+    let with_wheel = rooms.min(parts.len() + 4);
+    cut_on(chance, &mut parts, with_wheel, 100);
+    cut_on(chance, &mut parts, rooms, 20);
     Floor {
         width: FINE,
         height: FINE,

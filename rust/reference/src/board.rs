@@ -1,5 +1,6 @@
 //! The board: holds at most one job with its plan. A refusal leaves it, and the caller's buffer, as they were.
 
+use crate::cuts::{self, Part};
 use crate::doors::{doors, Door};
 use crate::drawing::{draw, touch, Plan, Rectangle, Touch};
 use crate::job::{read, Job};
@@ -61,6 +62,16 @@ impl Board {
         Ok(register(&self.held()?.plan))
     }
 
+    /// Whether the rooms come apart by straight cuts.
+    pub fn sliceable(&self) -> Result<bool, Refusal> {
+        Ok(cuts::sliceable(&self.held()?.plan))
+    }
+
+    /// 10, then 15 for a floor that is not sliceable.
+    pub fn cuts(&self) -> Result<Vec<Part>, Refusal> {
+        cuts::tree(&self.held()?.plan).ok_or(refusal::NOT_SLICEABLE)
+    }
+
     pub fn write_job(&self, buffer: &mut [u8]) -> Result<usize, Refusal> {
         write(&self.held()?.job.bytes(), buffer)
     }
@@ -71,6 +82,11 @@ impl Board {
 
     pub fn write_walls(&self, buffer: &mut [u8]) -> Result<usize, Refusal> {
         write(&register::bytes(&self.walls()?), buffer)
+    }
+
+    /// 10, then 15, then 14.
+    pub fn write_cuts(&self, buffer: &mut [u8]) -> Result<usize, Refusal> {
+        write(&cuts::bytes(&self.cuts()?), buffer)
     }
 
     pub fn job(&self) -> Option<&Job> {

@@ -1,5 +1,6 @@
 //! The floor examples of document 01, and a few facts the documents state in words.
 
+use crate::cuts::Part;
 use crate::drawing::{stretch, touch, within_bound, Rectangle, Touch};
 use crate::job::{Entry, Job};
 use crate::register::Wall;
@@ -368,6 +369,9 @@ fn questions_and_writing_without_a_plan() {
     assert_eq!(board.doors(), Err(Refusal(10)));
     assert_eq!(board.walls(), Err(Refusal(10)));
     assert_eq!(board.write_walls(&mut buffer), Err(Refusal(10)));
+    assert_eq!(board.sliceable(), Err(Refusal(10)));
+    assert_eq!(board.cuts(), Err(Refusal(10)));
+    assert_eq!(board.write_cuts(&mut buffer), Err(Refusal(10)));
     assert_eq!(board.write_job(&mut buffer), Err(Refusal(10)));
     assert_eq!(board.write_plan(&mut buffer), Err(Refusal(10)));
     assert_eq!(buffer, [7; 4]);
@@ -643,5 +647,148 @@ fn the_register_is_written_as_fields_of_tag_8() {
     assert_eq!(buffer[48..], bytes("08 00 05 01 04 01 03 02 AA"));
     let mut short = vec![0xAA; 55];
     assert_eq!(board.write_walls(&mut short), Err(Refusal(14)));
+    assert!(short.iter().all(|&byte| byte == 0xAA));
+}
+
+/// Direction and place of a cut, or a room alone.
+fn told_cuts(board: &Board) -> Vec<Vec<usize>> {
+    let numbers = |part: &Part| match part {
+        Part::Cut(cut) => vec![usize::from(cut.direction), cut.place],
+        Part::Leaf(room) => vec![*room],
+    };
+    board
+        .cuts()
+        .expect("sliceable")
+        .iter()
+        .map(numbers)
+        .collect()
+}
+
+#[test]
+fn one_room_is_a_leaf() {
+    let board = loaded(&bytes(P1));
+    assert_eq!(board.sliceable(), Ok(true));
+    assert_eq!(told_cuts(&board), [vec![4]]);
+}
+
+/// F comes apart by one upright cut; turned, by one level cut.
+#[test]
+fn the_cuts_of_f_before_and_after_a_turn() {
+    let mut board = loaded(&bytes(F));
+    let of_f = [
+        vec![0, 2],
+        vec![1, 3],
+        vec![6],
+        vec![4],
+        vec![1, 2],
+        vec![7],
+        vec![5],
+    ];
+    assert_eq!(told_cuts(&board), of_f);
+    board.turn(5, 6).expect("accepted");
+    let turned = [
+        vec![1, 2],
+        vec![0, 3],
+        vec![6],
+        vec![7],
+        vec![0, 2],
+        vec![4],
+        vec![5],
+    ];
+    assert_eq!(told_cuts(&board), turned);
+}
+
+/// The leftmost cut of a row, then the leftmost of what is left.
+#[test]
+fn the_leftmost_cut_comes_first() {
+    let row = told_cuts(&loaded(&row(4)));
+    let expected = [
+        vec![0, 2],
+        vec![4],
+        vec![0, 3],
+        vec![5],
+        vec![0, 4],
+        vec![6],
+        vec![7],
+    ];
+    assert_eq!(row, expected);
+}
+
+/// Rooms 4, then 5 and 6 side by side, then 7, one over the other.
+#[test]
+fn the_lowest_cut_where_none_is_upright() {
+    let board = loaded(&job(&[
+        &[(6, 0), (5, 0), (1, 1), (2, 2), (3, 3)],
+        &[(7, 0), (1, 1), (4, 2), (6, 3)],
+        &[(7, 0), (5, 1), (4, 2), (3, 3)],
+        &[(0, 0), (1, 1), (5, 2), (6, 2), (3, 3)],
+    ]));
+    let expected = [
+        vec![1, 2],
+        vec![4],
+        vec![1, 3],
+        vec![0, 2],
+        vec![5],
+        vec![6],
+        vec![7],
+    ];
+    assert_eq!(told_cuts(&board), expected);
+}
+
+/// Four arms round room 8: 4 below, 5 to the right, 6 above, 7 to the left.
+fn pinwheel() -> Board {
+    loaded(&job(&[
+        &[(8, 0), (7, 0), (1, 1), (2, 2), (5, 3)],
+        &[(6, 0), (8, 1), (4, 1), (2, 2), (3, 3)],
+        &[(0, 0), (7, 1), (8, 2), (5, 2), (3, 3)],
+        &[(0, 0), (1, 1), (4, 2), (8, 3), (6, 3)],
+        &[(6, 0), (7, 1), (4, 2), (5, 3)],
+    ]))
+}
+
+#[test]
+fn a_pinwheel_is_not_sliceable() {
+    let board = pinwheel();
+    assert_eq!(board.sliceable(), Ok(false));
+    assert_eq!(board.cuts(), Err(Refusal(15)));
+    for length in [0, 1024] {
+        let mut buffer = vec![0xAA; length];
+        assert_eq!(board.write_cuts(&mut buffer), Err(Refusal(15)));
+        assert!(buffer.iter().all(|&byte| byte == 0xAA));
+    }
+}
+
+/// A pinwheel between two strips: cuts there are, but none helps.
+#[test]
+fn a_pinwheel_in_slices_is_not_sliceable() {
+    let board = loaded(&job(&[
+        &[(8, 0), (7, 0), (9, 1), (2, 2), (5, 3)],
+        &[(6, 0), (8, 1), (4, 1), (2, 2), (10, 3)],
+        &[(0, 0), (7, 1), (8, 2), (5, 2), (10, 3)],
+        &[(0, 0), (9, 1), (4, 2), (8, 3), (6, 3)],
+        &[(6, 0), (7, 1), (4, 2), (5, 3)],
+        &[(0, 0), (1, 1), (2, 2), (4, 3), (7, 3)],
+        &[(0, 0), (6, 1), (5, 1), (2, 2), (3, 3)],
+    ]));
+    let rooms = crate::cuts::all_rooms(board.plan().unwrap());
+    assert_eq!(crate::cuts::cuts(board.plan().unwrap(), &rooms).len(), 2);
+    assert_eq!(board.sliceable(), Ok(false));
+    assert_eq!(board.cuts(), Err(Refusal(15)));
+}
+
+#[test]
+fn cuts_are_written_as_fields_of_tags_5_and_6() {
+    let board = loaded(&bytes(F));
+    let expected = bytes(
+        "05 00 02 00 02 05 00 02 01 03 06 00 01 06 06 00 01 04 \
+        05 00 02 01 02 06 00 01 07 06 00 01 05",
+    );
+    assert_eq!(expected.len(), 9 * 4 - 5);
+    let mut buffer = vec![0xAA; 32];
+    assert_eq!(board.write_cuts(&mut buffer), Ok(31));
+    assert_eq!(buffer[..31], expected);
+    assert_eq!(buffer[31], 0xAA);
+    let mut short = vec![0xAA; 30];
+    assert_eq!(board.write_cuts(&mut short), Err(Refusal(14)));
     assert!(short.iter().all(|&byte| byte == 0xAA));
 }

@@ -4,6 +4,7 @@
 //! It aims at being easy to hold against the documents, not at speed.
 
 pub mod board;
+pub mod cuts;
 pub mod doors;
 pub mod drawing;
 pub mod fields;
@@ -39,6 +40,7 @@ pub mod refusal {
     pub const LIST_TOO_SHORT: Refusal = Refusal(12);
     pub const NO_SUCH_VERTEX: Refusal = Refusal(13);
     pub const BUFFER_TOO_SHORT: Refusal = Refusal(14);
+    pub const NOT_SLICEABLE: Refusal = Refusal(15);
 }
 
 /// The frame sides; each also is the number of the one kind with which it may appear.

@@ -1,9 +1,9 @@
 //! The zone planner for Rust programs: safe functions over the proved static library. No state is kept between two calls.
 //!
-//! `plan_into`, `walls_into`, `turned_into` and `star_into` write to a lent buffer and tell the length: the front is filled, what lies behind stays as it
-//! was, and a refusal leaves every byte. `plan`, `walls`, `turned` and `star` bring a buffer that always suffices.
+//! `plan_into`, `walls_into`, `cuts_into`, `turned_into` and `star_into` write to a lent buffer and tell the length: the front is filled, what lies behind
+//! stays as it was, and a refusal leaves every byte. `plan`, `walls`, `cuts`, `turned` and `star` bring a buffer that always suffices.
 
-/// The number of a refusal, 1 to 14; 8 is not used.
+/// The number of a refusal, 1 to 15; 8 is not used.
 #[derive(Clone, Copy, Debug, PartialEq, Eq)]
 pub struct Refusal(pub u8);
 
@@ -19,6 +19,9 @@ pub const PLAN_MOST: usize = 5 + 64 * 8;
 
 /// No list of walls is longer: 60 rooms have 63 walls.
 pub const WALLS_MOST: usize = 63 * 8;
+
+/// No tree of cuts is longer: 60 rooms and 59 cuts.
+pub const CUTS_MOST: usize = 60 * 4 + 59 * 5;
 
 /// No accepted job is longer: 60 stars of 360 pairs.
 pub const JOB_MOST: usize = 4 + 60 * 3 + 360 * 2;
@@ -37,6 +40,13 @@ mod library {
         ) -> usize;
 
         pub fn tirunoiwa_walls(
+            job: *const u8,
+            job_length: usize,
+            out: *mut u8,
+            out_length: usize,
+        ) -> usize;
+
+        pub fn tirunoiwa_cuts(
             job: *const u8,
             job_length: usize,
             out: *mut u8,
@@ -72,6 +82,11 @@ pub fn plan(job: &[u8]) -> Result<Vec<u8>, Refusal> {
 /// The walls of a job's plan, for the joiner.
 pub fn walls(job: &[u8]) -> Result<Vec<u8>, Refusal> {
     written(WALLS_MOST, |out| walls_into(job, out))
+}
+
+/// The tree of straight cuts that take a job's plan apart; refused by 15 where none do.
+pub fn cuts(job: &[u8]) -> Result<Vec<u8>, Refusal> {
+    written(CUTS_MOST, |out| cuts_into(job, out))
 }
 
 /// The job with the contact of two rooms turned.
@@ -110,6 +125,14 @@ pub fn walls_into(job: &[u8], out: &mut [u8]) -> Result<usize, Refusal> {
     // SAFETY: both are slices, so the pointers are not null and valid for the lengths; `out` is lent alone, so `job` does not overlap it.
     let answer =
         unsafe { library::tirunoiwa_walls(job.as_ptr(), job.len(), out.as_mut_ptr(), out.len()) };
+    value(answer)
+}
+
+/// The tree of straight cuts, written to the front of a lent buffer.
+pub fn cuts_into(job: &[u8], out: &mut [u8]) -> Result<usize, Refusal> {
+    // SAFETY: both are slices, so the pointers are not null and valid for the lengths; `out` is lent alone, so `job` does not overlap it.
+    let answer =
+        unsafe { library::tirunoiwa_cuts(job.as_ptr(), job.len(), out.as_mut_ptr(), out.len()) };
     value(answer)
 }
 

@@ -1,7 +1,8 @@
 //! Calls each function of the static library from Rust. Every byte of a lent buffer is looked at, behind what was written too.
 
-use tirunoiwa::{plan, plan_into, star, star_into, touch, turned, turned_into, walls, walls_into};
-use tirunoiwa::{Refusal, Touch, JOB_MOST, PLAN_MOST, WALLS_MOST};
+use tirunoiwa::{cuts, plan, star, touch, turned, walls};
+use tirunoiwa::{cuts_into, plan_into, star_into, turned_into, walls_into};
+use tirunoiwa::{Refusal, Touch, CUTS_MOST, JOB_MOST, PLAN_MOST, WALLS_MOST};
 
 const MOST: usize = 1024;
 
@@ -65,6 +66,28 @@ const P9_WALLS: &[u8] = &[
     8, 0, 5, 1, 1, 1, 4, 2, // along S
     8, 0, 5, 1, 2, 1, 4, 4, // between 6, 7 and 4, 5
     8, 0, 5, 1, 3, 1, 4, 2, // along N
+];
+
+const F_CUTS: &[u8] = &[
+    5, 0, 2, 0, 2, // upright at 2
+    5, 0, 2, 1, 3, 6, 0, 1, 6, 6, 0, 1, 4, // left of it, level at 3: 6 and 4
+    5, 0, 2, 1, 2, 6, 0, 1, 7, 6, 0, 1, 5, // right of it, level at 2: 7 and 5
+];
+
+const P9_CUTS: &[u8] = &[
+    5, 0, 2, 1, 2, // level at 2
+    5, 0, 2, 0, 3, 6, 0, 1, 6, 6, 0, 1, 7, // below it, upright at 3: 6 and 7
+    5, 0, 2, 0, 2, 6, 0, 1, 4, 6, 0, 1, 5, // above it, upright at 2: 4 and 5
+];
+
+/// Four arms round room 8, which no straight cut takes apart.
+const PINWHEEL: &[u8] = &[
+    1, 0, 1, 5, // five rooms
+    2, 0, 10, 8, 0, 7, 0, 1, 1, 2, 2, 5, 3, // 4
+    2, 0, 10, 6, 0, 8, 1, 4, 1, 2, 2, 3, 3, // 5
+    2, 0, 10, 0, 0, 7, 1, 8, 2, 5, 2, 3, 3, // 6
+    2, 0, 10, 0, 0, 1, 1, 4, 2, 8, 3, 6, 3, // 7
+    2, 0, 8, 6, 0, 7, 1, 4, 2, 5, 3, // 8
 ];
 
 /// No rooms.
@@ -181,6 +204,39 @@ fn walls_are_refused() {
     refuses(MOST, 1, |out| walls_into(P3, out));
     refuses(0, 9, |out| walls_into(P10, out));
     assert_eq!(walls(P10), Err(Refusal(9)));
+}
+
+#[test]
+fn cuts_are_written() {
+    fills(MOST, F_CUTS, |out| cuts_into(F, out));
+    fills(F_CUTS.len(), F_CUTS, |out| cuts_into(F, out));
+    fills(CUTS_MOST, P9_CUTS, |out| cuts_into(P9, out));
+    assert_eq!(cuts(F), Ok(F_CUTS.to_vec()));
+    assert_eq!(cuts(P9), Ok(P9_CUTS.to_vec()));
+}
+
+/// The longest tree: sixty rooms in a row, each cut off on the left.
+#[test]
+fn the_longest_tree_of_cuts_is_written() {
+    let job = include_bytes!("../../../examples/row60.job");
+    let cut_off = (4..63).flat_map(|v: u8| [5, 0, 2, 0, v - 2, 6, 0, 1, v]);
+    let row: Vec<u8> = cut_off.chain([6, 0, 1, 63]).collect();
+    assert_eq!(row.len(), CUTS_MOST);
+    fills(CUTS_MOST, &row, |out| cuts_into(job, out));
+    refuses(CUTS_MOST - 1, 14, |out| cuts_into(job, out));
+    assert_eq!(cuts(job), Ok(row));
+}
+
+#[test]
+fn cuts_are_refused() {
+    refuses(F_CUTS.len() - 1, 14, |out| cuts_into(F, out));
+    refuses(0, 14, |out| cuts_into(F, out));
+    refuses(MOST, 15, |out| cuts_into(PINWHEEL, out));
+    refuses(0, 15, |out| cuts_into(PINWHEEL, out));
+    refuses(MOST, 2, |out| cuts_into(P2, out));
+    refuses(MOST, 1, |out| cuts_into(P3, out));
+    refuses(0, 9, |out| cuts_into(P10, out));
+    assert_eq!(cuts(PINWHEEL), Err(Refusal(15)));
 }
 
 #[test]

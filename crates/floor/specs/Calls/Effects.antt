@@ -4,6 +4,7 @@
 use Prim.Native.Nat.{ℕ, _≤_}
 use mathlib.Core.Path.{_≡_, refl, sym, ap, _∙_}
 use mathlib.Core.Bool.{Bool, true, false}
+use mathlib.Core.Option.{Option, none, some}
 use mathlib.Core.List.{List, []}
 use lib.ListN.{length, take, drop, length-append, length-drop}
 use lib.Seq.{take-at, drop-at}
@@ -14,11 +15,12 @@ use Rattle.floor.specs.Jobs.{Job, writeJob}
 use Rattle.floor.specs.Jobs.Written.{read-write-job, write-read-job}
 use Rattle.floor.specs.Plans.{Plan, Answer, refused, held, drawn, writePlan}
 use Rattle.floor.specs.Plans.Held.{drawn-held, drawn-again}
+use Rattle.floor.specs.Cuts.{Tree, writeTree, planTree}
 use Rattle.floor.specs.Registers.{register, writeRegister}
 use Rattle.floor.specs.Turns.{turn, turnedBy}
 use Rattle.floor.specs.Turns.Restore.{asked, turned-restores}
 use Rattle.floor.specs.Calls.{load, Board, empty, holding, Call, loads, turns, rectangle, writesJob, writesPlan, Reply, refusal, done, wrote, Left}
-use Rattle.floor.specs.Calls.{Restored, Step, lent, refuse, after, asks, writes, step, touches, writesRegister}
+use Rattle.floor.specs.Calls.{Restored, Step, lent, refuse, after, asks, writes, step, touches, writesRegister, slices, writesCuts, writesTree}
 use Rattle.floor.specs.Calls.Sound.{Sound, sound-good, load-held, load-reads}
 
 -- what is done is not refused
@@ -43,6 +45,12 @@ unfolding writes refuse
 writes-refused b true bs buf k e = let z : _≡_ {A = ℕ} 0 1 = cc in absurd (omega arith)
 writes-refused b false bs buf k e = record { same-board = refl; same-buffer = refl }
 
+-- a writing of a tree of cuts that is refused leaves the board and every byte of the buffer
+tree-refused : (b : Board) (o : Option Tree) (buf : List ℕ) (k : ℕ) → writesTree b o buf .reply ≡ refusal k → Left b buf (writesTree b o buf)
+unfolding writesTree refuse
+tree-refused b none buf k e = record { same-board = refl; same-buffer = refl }
+tree-refused b (some t) buf k e = writes-refused b _ (writeTree t) buf k e
+
 -- A REFUSED CALL leaves the board, and every byte of the buffer
 pub refused-leaves : (b : Board) (c : Call) (k : ℕ) → step b c .reply ≡ refusal k → Left b (lent c) (step b c)
 unfolding step lent refuse
@@ -56,12 +64,16 @@ refused-leaves empty (touches u v) k e = record { same-board = refl; same-buffer
 refused-leaves empty (writesJob buf) k e = record { same-board = refl; same-buffer = refl }
 refused-leaves empty (writesPlan buf) k e = record { same-board = refl; same-buffer = refl }
 refused-leaves empty (writesRegister buf) k e = record { same-board = refl; same-buffer = refl }
+refused-leaves empty slices k e = record { same-board = refl; same-buffer = refl }
+refused-leaves empty (writesCuts buf) k e = record { same-board = refl; same-buffer = refl }
 refused-leaves (holding i q) (turns u v) k e = after-refused (holding i q) (turn i u v) k e
 refused-leaves (holding i q) (rectangle v) k e = asks-left (holding i q) _ _
 refused-leaves (holding i q) (touches u v) k e = asks-left (holding i q) _ _
 refused-leaves (holding i q) (writesJob buf) k e = writes-refused (holding i q) _ (writeJob i) buf k e
 refused-leaves (holding i q) (writesPlan buf) k e = writes-refused (holding i q) _ (writePlan q) buf k e
 refused-leaves (holding i q) (writesRegister buf) k e = writes-refused (holding i q) _ (writeRegister (register q)) buf k e
+refused-leaves (holding i q) slices k e = asks-left (holding i q) _ _
+refused-leaves (holding i q) (writesCuts buf) k e = tree-refused (holding i q) (planTree q) buf k e
 
 -- WHAT A WRITING DOES: the front is filled, the length told, nothing behind it touched, and the board left
 pub record Written (b : Board) (bs buf : List ℕ) (n : ℕ) (s : Step) : Type 0 where
@@ -98,10 +110,22 @@ pub wrote-plan : (j : Job) (p : Plan) (buf : List ℕ) (n : ℕ) → step (holdi
 unfolding step
 wrote-plan j p buf n e = writes-wrote (holding j p) _ (writePlan p) buf n (leb-true (length (writePlan p)) (length buf)) e
 
+-- so does the writing of the register
 pub wrote-register : (j : Job) (p : Plan) (buf : List ℕ) (n : ℕ) → step (holding j p) (writesRegister buf) .reply ≡ wrote n
     → Written (holding j p) (writeRegister (register p)) buf n (step (holding j p) (writesRegister buf))
 unfolding step
 wrote-register j p buf n e = writes-wrote (holding j p) _ (writeRegister (register p)) buf n (leb-true (length (writeRegister (register p))) (length buf)) e
+
+-- so does the writing of the tree of cuts, and there is one
+pub wrote-cuts : (j : Job) (p : Plan) (buf : List ℕ) (n : ℕ) → step (holding j p) (writesCuts buf) .reply ≡ wrote n
+    → (t : Tree) × (planTree p ≡ some t) × Written (holding j p) (writeTree t) buf n (step (holding j p) (writesCuts buf))
+unfolding step
+wrote-cuts j p buf n e = go (planTree p) e
+  where
+    go : (o : Option Tree) → writesTree (holding j p) o buf .reply ≡ wrote n
+        → (t : Tree) × (o ≡ some t) × Written (holding j p) (writeTree t) buf n (writesTree (holding j p) o buf)
+    go none e = unfold writesTree refuse in let z : _≡_ {A = ℕ} 0 1 = cc in absurd (omega arith)
+    go (some t) e = unfold writesTree in (t, refl, writes-wrote (holding j p) _ (writeTree t) buf n (leb-true (length (writeTree t)) (length buf)) e)
 
 -- a load that holds, on whatever board
 after-held : (b : Board) (r : Answer) (j : Job) (p : Plan) → r ≡ held j p → after b r .board ≡ holding j p

@@ -9,17 +9,17 @@ use Rattle.floor.specs.Lists.{pairwise, sum}
 use Rattle.floor.specs.Fields.{Bytes, writeField}
 use Rattle.floor.specs.Fields.Laws.{bytes-append, bytes-field, length-field}
 use Rattle.floor.specs.Jobs.{Job}
-use Rattle.floor.specs.Walls.{at, here, rules}
+use Rattle.floor.specs.Walls.{here, rules}
 use Rattle.floor.specs.Plans.{Plan}
 use Rattle.floor.specs.Registers.{Register, register, Stretch, wideOf, longOf, Partition, axisOf, Lies, WallOf, roomSides, partitionBytes, writeRegister}
 use Rattle.floor.specs.Registers.Runs.{Seen}
-use Rattle.floor.specs.Registers.Floors.{Thin, plan-thin, viewOf}
+use Rattle.floor.specs.Registers.Floors.{viewOf}
 use Rattle.floor.specs.Registers.Right.{register-right, lies-inside, upright-seen, level-seen}
 use Rattle.floor.specs.Registers.Merge.{inLine, merged, Rearranged}
 use Rattle.floor.specs.Registers.Fast.{merged-register}
 use Rattle.floor.specs.Registers.Totals.{sides-total}
 use Rattle.floor.specs.Registers.Count.{walls-exactly}
-use Rattle.floor.specs.Calls.Sound.{Sound, some-room, sound-good}
+use Rattle.floor.specs.Calls.Sound.{Sound, some-room, sound-good, sound-thin}
 use Rattle.floor.specs.Calls.Bytes.{limits}
 
 -- a member is no more than the sum
@@ -45,26 +45,22 @@ entries-bytes (w ∷ ws) h =
     (entries-bytes ws (λ v i. h v (List·Memᴰ·tail i)))
 
 module _ (j : Job) (p : Plan) (s : Sound j p) where
-  -- the frame of the held plan is one cell thick
-  pub sound-thin : Thin p
-  sound-thin = rw (s .is-drawn .is-plan) (plan-thin j (at (s .is-drawn .xs)) (at (s .is-drawn .ys)))
-
   -- THE REGISTER COUNTED AFRESH is the one by the contacts of the job now held
   pub held-register : Register j p (register p)
-  held-register = register-right j (s .passes) (some-room j p s) p (sound-good j p s) sound-thin
+  held-register = register-right j (s .passes) (some-room j p s) p (sound-good j p s) (sound-thin j p s)
 
   -- N + 3 WALLS stand in the register
   pub held-walls : length (register p) ≡ length j + 3
-  held-walls = walls-exactly j (s .passes) (some-room j p s) p (sound-good j p s) sound-thin
+  held-walls = walls-exactly j (s .passes) (some-room j p s) p (sound-good j p s) (sound-thin j p s)
 
   -- 4 N ROOM SIDES lie on the walls of the register
   pub held-sides : sum (map (λ w. w .sides) (register p)) ≡ 4 * length j
-  held-sides = sides-total j (s .passes) (some-room j p s) p (sound-good j p s) sound-thin
+  held-sides = sides-total j (s .passes) (some-room j p s) p (sound-good j p s) (sound-thin j p s)
 
   -- THE FAST WAY: the room sides of each direction, by line and beginning, merged where they touch
   pub held-merged : (U L : List Stretch) → Rearranged (roomSides 0 p) U → pairwise inLine U ≡ true → Rearranged (roomSides 1 p) L → pairwise inLine L ≡ true
       → merged 0 U ++ merged 1 L ≡ register p
-  held-merged = merged-register j (s .passes) (some-room j p s) p (sound-good j p s) sound-thin
+  held-merged = merged-register j (s .passes) (some-room j p s) p (sound-good j p s) (sound-thin j p s)
 
   -- WRITTEN, the register has eight bytes for each of its n + 3 walls
   pub register-length : length (writeRegister (register p)) ≡ 8 * (length j + 3)
@@ -76,8 +72,8 @@ module _ (j : Job) (p : Plan) (s : Sound j p) where
 
   -- the held plan is seen in either direction, with the job's rules
   seen : (d : ℕ) → d < 2 → Seen (viewOf (length j + 4) d p) (rules (axisOf d) j)
-  seen zero h = upright-seen j (s .passes) (some-room j p s) p (sound-good j p s) sound-thin
-  seen (suc zero) h = level-seen j (s .passes) (some-room j p s) p (sound-good j p s) sound-thin
+  seen zero h = upright-seen j (s .passes) (some-room j p s) p (sound-good j p s) (sound-thin j p s)
+  seen (suc zero) h = level-seen j (s .passes) (some-room j p s) p (sound-good j p s) (sound-thin j p s)
   seen (suc (suc d)) h = absurd (omega arith)
 
   -- the sheet of the held plan is at most 64 cells in either direction

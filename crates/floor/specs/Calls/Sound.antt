@@ -2,6 +2,7 @@
 use Prim.Native.Nat.{ℕ, _<_}
 use mathlib.Core.Path.{_≡_, refl, sym, ap, _∙_, subst}
 use mathlib.Core.Bool.{Bool, true, false}
+use mathlib.Core.Option.{Option, none, some}
 use mathlib.Core.List.{List, [], _∷_}
 use lib.ListN.{length}
 use native.Mathlib.Omega.{arith}
@@ -10,14 +11,17 @@ use Rattle.floor.specs.Lists.Laws.{and-parts}
 use Rattle.floor.specs.Jobs.{firstSix, Job, test2, test3, Reading, fails, reads, readJob, writeJob, SixPassed}
 use Rattle.floor.specs.Jobs.Facts.{labelling-passes, Passes, passes-of, of-passes, six-passed, passed-six}
 use Rattle.floor.specs.Jobs.Written.{read-test2}
+use Rattle.floor.specs.Walls.{at}
 use Rattle.floor.specs.Plans.{Plan, Answer, refused, held, drawRead, writePlan}
 use Rattle.floor.specs.Plans.Held.{not-held, Drawn, drawn-held, drawn-again, held-good}
 use Rattle.floor.specs.Floor.{GoodPlan}
+use Rattle.floor.specs.Floor.Inner.{Thin, plan-thin}
+use Rattle.floor.specs.Cuts.{Tree, writeTree, planTree}
 use Rattle.floor.specs.Registers.{register, writeRegister}
 use Rattle.floor.specs.Turns.{turn, Kept, turnedBy}
 use Rattle.floor.specs.Turns.Restore.{asked, turned-keeps}
 use Rattle.floor.specs.Calls.{load, Board, empty, holding, Call, loads, turns, rectangle, writesJob, writesPlan, Reply, refuse, after, asks, writes, step}
-use Rattle.floor.specs.Calls.{run, touches, writesRegister}
+use Rattle.floor.specs.Calls.{run, touches, writesRegister, slices, writesCuts, writesTree}
 
 -- WHAT IS HELD: a job past tests 2 to 6, and its own drawing
 pub record Sound (j : Job) (p : Plan) : Type 0 where
@@ -40,6 +44,10 @@ module _ (j : Job) (p : Plan) (s : Sound j p) where
   -- the held plan is good for its job
   pub sound-good : GoodPlan j p
   sound-good = held-good j (s .passes) some-room p (s .is-drawn)
+
+  -- with a frame one cell thick
+  pub sound-thin : Thin p
+  sound-thin = rw (s .is-drawn .is-plan) (plan-thin j (at (s .is-drawn .xs)) (at (s .is-drawn .ys)))
 
 -- A LOAD that holds read a job past tests 2 to 6, and drew it
 draw-held : (r : Reading) (j : Job) (p : Plan) → drawRead r ≡ held j p → (r ≡ reads j) × Drawn j p
@@ -93,6 +101,12 @@ unfolding writes refuse
 writes-board b true bs buf = refl
 writes-board b false bs buf = refl
 
+-- a writing of a tree of cuts leaves the board
+tree-board : (b : Board) (o : Option Tree) (buf : List ℕ) → writesTree b o buf .board ≡ b
+unfolding writesTree refuse
+tree-board b none buf = refl
+tree-board b (some t) buf = writes-board b _ (writeTree t) buf
+
 -- any one call leaves a sound board sound
 pub step-sound : (b : Board) (c : Call) → SoundBoard b → SoundBoard (step b c .board)
 unfolding step refuse
@@ -106,12 +120,16 @@ step-sound empty (touches u v) s = s
 step-sound empty (writesJob buf) s = s
 step-sound empty (writesPlan buf) s = s
 step-sound empty (writesRegister buf) s = s
+step-sound empty slices s = s
+step-sound empty (writesCuts buf) s = s
 step-sound (holding i q) (turns u v) s = after-sound (holding i q) (turn i u v) s (λ j p e. turn-held i q u v j p s e)
 step-sound (holding i q) (rectangle v) s = rw (asks-board (holding i q) _ _) s
 step-sound (holding i q) (touches u v) s = rw (asks-board (holding i q) _ _) s
 step-sound (holding i q) (writesJob buf) s = rw (writes-board (holding i q) _ (writeJob i) buf) s
 step-sound (holding i q) (writesPlan buf) s = rw (writes-board (holding i q) _ (writePlan q) buf) s
 step-sound (holding i q) (writesRegister buf) s = rw (writes-board (holding i q) _ (writeRegister (register q)) buf) s
+step-sound (holding i q) slices s = rw (asks-board (holding i q) _ _) s
+step-sound (holding i q) (writesCuts buf) s = rw (tree-board (holding i q) (planTree q) buf) s
 
 -- ANY CALLS
 pub run-sound : (b : Board) (cs : List Call) → SoundBoard b → SoundBoard (run b cs)

@@ -21,12 +21,13 @@ use Rattle.floor.specs.Walls.Walk.{numbers-respects, numbers-positive}
 use Rattle.floor.specs.Walls.Rules.{obeys-respects, respects-obeys, numbered, numbers-are, numbers-least, to-vertex}
 use Rattle.floor.specs.Plans.{Plan, planOf, joined, sharesJoined, inOrder, roundInOrder, drawable, Answer, refused, held, past, tested, planned, Alike}
 use Rattle.floor.specs.Plans.{one-plan, one-refusal, drawn, drawRead, writePlan}
+use Rattle.floor.specs.Cuts.{Tree, writeTree, planTree}
 use Rattle.floor.specs.Registers.{register, writeRegister}
 use Rattle.floor.specs.Turns.{turned, turningAt, turningFrom, inContact, turning, turn, turnedBy}
 use Rattle.floor.specs.Turns.Swing.{last-restarted, restart-turned, length-listOf}
 use Rattle.floor.specs.Turns.Restore.{turnable, turned-keeps}
 use Rattle.floor.specs.Calls.{load, Board, empty, holding, Call, loads, turns, rectangle, writesJob, writesPlan, Reply, wrote, refuse, BoardsAlike}
-use Rattle.floor.specs.Calls.{StepsAlike, both-empty, both-hold, after, asks, writes, step, run, touches, writesRegister}
+use Rattle.floor.specs.Calls.{StepsAlike, both-empty, both-hold, after, asks, writes, step, run, touches, writesRegister, slices, writesCuts, writesTree}
 use Rattle.floor.specs.Calls.Sound.{Sound, SoundBoard, sound-good, step-sound}
 use Rattle.floor.specs.Calls.Exact.{kind-found}
 
@@ -375,6 +376,12 @@ writes-alike b c bs cs buf e h = rw e (go (leb (length cs) (length buf)))
     go true = record { one-reply = ap wrote e; boards = h }
     go false = record { one-reply = refl; boards = h }
 
+-- a writing of one tree of cuts, or of none, gets the same reply on boards alike and leaves them alike
+tree-alike : (b c : Board) (o : Option Tree) (buf : List ℕ) → BoardsAlike b c → StepsAlike (writesTree b o buf) (writesTree c o buf)
+unfolding writesTree refuse
+tree-alike b c none buf h = record { one-reply = refl; boards = h }
+tree-alike b c (some t) buf h = writes-alike b c (writeTree t) (writeTree t) buf refl h
+
 -- every board is like itself
 boards-itself : (b : Board) → BoardsAlike b b
 boards-itself empty = both-empty
@@ -399,6 +406,8 @@ step-alike (touches u v) s t both-empty = record { one-reply = refl; boards = bo
 step-alike (writesJob buf) s t both-empty = record { one-reply = refl; boards = both-empty }
 step-alike (writesPlan buf) s t both-empty = record { one-reply = refl; boards = both-empty }
 step-alike (writesRegister buf) s t both-empty = record { one-reply = refl; boards = both-empty }
+step-alike slices s t both-empty = record { one-reply = refl; boards = both-empty }
+step-alike (writesCuts buf) s t both-empty = record { one-reply = refl; boards = both-empty }
 step-alike (turns u v) s t (both-hold {j} {i} {p} o) =
     after-alike (holding j p) (holding i p) (both-hold o) (turn-alike o p p s t u v)
 step-alike (rectangle v) s t (both-hold {j} {i} {p} o) =
@@ -411,6 +420,8 @@ step-alike (writesPlan buf) s t (both-hold {j} {i} {p} o) =
     writes-alike (holding j p) (holding i p) (writePlan p) (writePlan p) buf refl (both-hold o)
 step-alike (writesRegister buf) s t (both-hold {j} {i} {p} o) =
     writes-alike (holding j p) (holding i p) (writeRegister (register p)) (writeRegister (register p)) buf refl (both-hold o)
+step-alike slices s t (both-hold {j} {i} {p} o) = asks-alike (holding j p) (holding i p) _ _ _ refl (both-hold o)
+step-alike (writesCuts buf) s t (both-hold {j} {i} {p} o) = tree-alike (holding j p) (holding i p) (planTree p) buf (both-hold o)
 
 -- ANY CALLS on two such boards
 pub run-alike : (b c : Board) (ks : List Call) → SoundBoard b → SoundBoard c → BoardsAlike b c → BoardsAlike (run b ks) (run c ks)

@@ -18,10 +18,11 @@ use Rattle.floor.specs.Jobs.Facts.{Passes}
 use Rattle.floor.specs.Walls.{Rule, rules}
 use Rattle.floor.specs.Plans.{Plan, rectOf}
 use Rattle.floor.specs.Floor.{Complete, GoodPlan}
+use Rattle.floor.specs.Floor.Inner.{Thin}
 use Rattle.floor.specs.Registers.{Stretch, lowSide, highSide, wideOf, longOf, Partition, earlier, axisOf, roomSides, built, starts, endFrom, partition}
 use Rattle.floor.specs.Registers.{registerOf, register}
 use Rattle.floor.specs.Registers.Runs.{View, In, Seen, Edge, Both, both-of, high-edge, low-edge, Run}
-use Rattle.floor.specs.Registers.Floors.{viewOf, Thin}
+use Rattle.floor.specs.Registers.Floors.{viewOf}
 use Rattle.floor.specs.Registers.Right.{walls-mem, mem-walls, lines-order, run-at, built-edge, edge-built, upright-seen, level-seen}
 use Rattle.floor.specs.Registers.Lines.{starts-is, starts-of}
 use Rattle.floor.specs.Registers.Unique.{never-both}

@@ -17,7 +17,8 @@ use Rattle.floor.specs.Floor.{GoodPlan}
 use Rattle.floor.specs.Registers.{Stretch, wideOf, longOf, axisOf, roomSides, built, starts, endFrom, between, partition, wallsOn, wallsOf, registerOf}
 use Rattle.floor.specs.Registers.{register}
 use Rattle.floor.specs.Registers.Runs.{Seen}
-use Rattle.floor.specs.Registers.Floors.{viewOf, Thin}
+use Rattle.floor.specs.Floor.Inner.{Thin}
+use Rattle.floor.specs.Registers.Floors.{viewOf}
 use Rattle.floor.specs.Registers.Right.{side-lies, lies-inside, complete, upright-seen, level-seen}
 use Rattle.floor.specs.Registers.Merge.{inLine, merged, Rearranged, Fit, merged-walls}
 

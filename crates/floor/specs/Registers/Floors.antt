@@ -1,21 +1,21 @@
--- A held plan, seen upright and level: its rooms lie inside the frame, and its contacts are its rules. Assumes nothing.
+-- A held plan, seen upright and level: its contacts are its rules. Assumes nothing.
 use Prim.Native.Nat.{ℕ, zero, suc, _+_, _-_, _≤_, _<_}
 use mathlib.Core.Path.{_≡_, refl, sym, _∙_}
 use mathlib.Core.Logic.{_⊎_, inl, inr}
 use mathlib.Core.List.{[], List·Memᴰ}
 use native.Mathlib.Omega.{arith}
-use native.Mathlib.Decide.{decLt}
 use lib.ListN.{length, getD}
 use Rattle.floor.specs.Jobs.{Entry, Job, Vertex, Room}
 use Rattle.floor.specs.Jobs.Facts.{Passes, star-at}
 use Rattle.floor.specs.Walls.{Rule, same, before, low, high, rules, at}
 use Rattle.floor.specs.Walls.Rules.{Told, Asks, told-every, every-told}
-use Rattle.floor.specs.Plans.{Plan, rectOf, planOf}
-use Rattle.floor.specs.Floor.{Cell, Point, Wall, Stands, Floor, Framed, Inside, GoodPlan}
+use Rattle.floor.specs.Plans.{Plan, rectOf}
+use Rattle.floor.specs.Floor.{Point, Wall, Stands, Floor, Framed, GoodPlan}
 use Rattle.floor.specs.Floor.Sides.{Side, up, right, opp, Piece, side, room, Known, Meets, Contact, Good}
 use Rattle.floor.specs.Floor.Read.{num, number, piece, number-piece, few-sides, starsOf, mem-entry, known-piece, entry-ok}
 use Rattle.floor.specs.Floor.Placed.{placeOf, stands-meets}
 use Rattle.floor.specs.Floor.Bridge.{covered, once, plan-good}
+use Rattle.floor.specs.Floor.Inner.{Thin, Inner, inner-room}
 use Rattle.floor.specs.Registers.{lowSide, highSide, wideOf, longOf, axisOf}
 use Rattle.floor.specs.Registers.Runs.{View, Along, On, Ruled, Seen}
 
@@ -31,18 +31,6 @@ viewOf n d p = record {
   stop = λ v. lowSide d (rectOf p v) .ends;
 }
 
--- the frame is one cell thick
-pub record Thin (p : Plan) : Type 0 where
-  pub w-x2 : rectOf p 1 .x2 ≡ 1
-  pub e-x1 : rectOf p 3 .x1 + 1 ≡ p .width
-  pub s-y2 : rectOf p 2 .y2 ≡ 1
-  pub n-y1 : rectOf p 0 .y1 + 1 ≡ p .height
-
--- a plan drawn from wall numbers has a frame one cell thick
-pub plan-thin : (j : Job) (f g : ℕ → ℕ) → Thin (planOf j f g)
-unfolding planOf rectOf
-plan-thin j f g = record { w-x2 = refl; e-x1 = omega arith; s-y2 = refl; n-y1 = omega arith }
-
 module _ (j : Job) (ok : Passes j) (some-room : 0 < length j) (p : Plan) (gp : GoodPlan j p) (thin : Thin p) where
   -- the plan is a floor plan for the job
   f : Floor j p
@@ -51,87 +39,6 @@ module _ (j : Job) (ok : Passes j) (some-room : 0 < length j) (p : Plan) (gp : G
   -- its frame lies as it should: W and E full height, N and S between
   fr : Framed p
   fr = gp .framed
-
-  -- where a room lies, inside the frame
-  pub record Inner (v : ℕ) : Type 0 where
-    pub left : 1 ≤ rectOf p v .x1
-    pub right : rectOf p v .x2 < p .width
-    pub lower : 1 ≤ rectOf p v .y1
-    pub upper : rectOf p v .y2 < p .height
-
-  -- no cell lies both in a frame side and in a room
-  meet : (x y u v : ℕ) → u < 4 → Room j v → Cell (rectOf p u) x y → Cell (rectOf p v) x y → ⊥
-  meet x y u v h r a b = omega (arith, r .0, once j ok p gp x y u v (omega arith) (r .1) a b)
-
-  -- every room lies inside the frame
-  pub inner : (v : ℕ) → Room j v → Inner v
-  inner v r = record { left = l; right = m; lower = low-end; upper = high-end }
-    where
-      i : Inside p (rectOf p v)
-      i = gp .inside v (r .1)
-
-      cell : (x y : ℕ) → rectOf p v .x1 ≤ x → x < rectOf p v .x2 → rectOf p v .y1 ≤ y → y < rectOf p v .y2 → Cell (rectOf p v) x y
-      cell x y a b c d = record { left = a; right = b; lower = c; upper = d }
-
-      l : 1 ≤ rectOf p v .x1
-      l = go (decLt 0 (rectOf p v .x1))
-        where
-          go : Dec (0 < rectOf p v .x1) → 1 ≤ rectOf p v .x1
-          go (yes h) = h
-          go (no h) =
-              absurd (meet 0 (rectOf p v .y1) 1 v (omega arith) r
-              (record {
-                left = omega (arith, fr .w-x1);
-                right = omega (arith, thin .w-x2);
-                lower = omega (arith, fr .w-y1);
-                upper = omega (arith, fr .w-y2, i .tall, i .in-height);
-              })
-              (cell 0 (rectOf p v .y1) (omega arith) (omega (arith, i .wide)) (omega arith) (i .tall)))
-
-      m : rectOf p v .x2 < p .width
-      m = go (decLt (rectOf p v .x2) (p .width))
-        where
-          go : Dec (rectOf p v .x2 < p .width) → rectOf p v .x2 < p .width
-          go (yes h) = h
-          go (no h) =
-              absurd (meet (p .width - 1) (rectOf p v .y1) 3 v (omega arith) r
-              (record {
-                left = omega (arith, thin .e-x1);
-                right = omega (arith, thin .e-x1, fr .e-x2);
-                lower = omega (arith, fr .e-y1);
-                upper = omega (arith, fr .e-y2, i .tall, i .in-height);
-              })
-              (cell (p .width - 1) (rectOf p v .y1) (omega (arith, i .wide, i .in-width)) (omega (arith, i .wide, i .in-width)) (omega arith) (i .tall)))
-
-      low-end : 1 ≤ rectOf p v .y1
-      low-end = go (decLt 0 (rectOf p v .y1))
-        where
-          go : Dec (0 < rectOf p v .y1) → 1 ≤ rectOf p v .y1
-          go (yes h) = h
-          go (no h) =
-              absurd (meet (rectOf p v .x1) 0 2 v (omega arith) r
-              (record {
-                left = omega (arith, fr .s-x1, thin .w-x2, l);
-                right = omega (arith, fr .s-x2, thin .e-x1, m, i .wide);
-                lower = omega (arith, fr .s-y1);
-                upper = omega (arith, thin .s-y2);
-              })
-              (cell (rectOf p v .x1) 0 (omega arith) (i .wide) (omega arith) (omega (arith, i .tall))))
-
-      high-end : rectOf p v .y2 < p .height
-      high-end = go (decLt (rectOf p v .y2) (p .height))
-        where
-          go : Dec (rectOf p v .y2 < p .height) → rectOf p v .y2 < p .height
-          go (yes h) = h
-          go (no h) =
-              absurd (meet (rectOf p v .x1) (p .height - 1) 0 v (omega arith) r
-              (record {
-                left = omega (arith, fr .n-x1, thin .w-x2, l);
-                right = omega (arith, fr .n-x2, thin .e-x1, m, i .wide);
-                lower = omega (arith, thin .n-y1);
-                upper = omega (arith, thin .n-y1, fr .n-y2);
-              })
-              (cell (rectOf p v .x1) (p .height - 1) (omega arith) (i .wide) (omega (arith, i .tall, i .in-height)) (omega (arith, i .tall, i .in-height))))
 
   -- A CONTACT IS A RULE, where one of the two is a room
   contact-rule : (d : ℕ) (k : Side) → axisOf d .far ≡ num k → axisOf d .near ≡ num (opp k) → (u v : Piece) → Known (starsOf j) u → Known (starsOf j) v
@@ -239,12 +146,12 @@ module _ (j : Job) (ok : Passes j) (some-room : 0 < length j) (p : Plan) (gp : G
         (record { left = n .left; right = n .right; lower = n .unit .lower; upper = n .unit .upper });
     no-four = λ x y a b c d ha hb hc hd q ma mb mc md. f .no-four x y a b c d ha hb hc hd q (point ma) (point mb) (point mc) (point md);
     three = omega (arith, thin .w-x2, thin .e-x1, fr .n-x1, fr .n-x2, gp .inside 0 (omega arith) .wide);
-    room-across = λ v l h. let i : Inner v = inner v (l, h) in (i .left, i .right);
-    room-along = λ v l h. let i : Inner v = inner v (l, h) in (i .lower, i .upper);
+    room-across = λ v l h. let i : Inner p v = inner-room j ok p gp thin v (l, h) in (i .left, i .right);
+    room-along = λ v l h. let i : Inner p v = inner-room j ok p gp thin v (l, h) in (i .lower, i .upper);
     frame = frame;
     joins = λ u v c hu hv one e a b. stands-rule 0 right refl refl u v hu hv one
         (record { line = e; c = c; starts = a .lower; ends = a .upper; starts′ = b .lower; ends′ = b .upper });
-    ruled = ruled-of 0 right refl refl (λ u v w. w) (λ u v w. w) (λ v r. let i : Inner v = inner v r in (i .lower, i .upper));
+    ruled = ruled-of 0 right refl refl (λ u v w. w) (λ u v w. w) (λ v r. let i : Inner p v = inner-room j ok p gp thin v r in (i .lower, i .upper));
   }
     where
       point : {v x y : ℕ} → On (view 0) v x y → Point (rectOf p v) x y
@@ -270,12 +177,12 @@ module _ (j : Job) (ok : Passes j) (some-room : 0 < length j) (p : Plan) (gp : G
         (record { left = n .unit .lower; right = n .unit .upper; lower = n .left; upper = n .right });
     no-four = λ y x a b c d ha hb hc hd q ma mb mc md. f .no-four x y a b c d ha hb hc hd q (point ma) (point mb) (point mc) (point md);
     three = gap;
-    room-across = λ v l h. let i : Inner v = inner v (l, h) in (i .lower, i .upper);
-    room-along = λ v l h. let i : Inner v = inner v (l, h) in (i .left, i .right);
+    room-across = λ v l h. let i : Inner p v = inner-room j ok p gp thin v (l, h) in (i .lower, i .upper);
+    room-along = λ v l h. let i : Inner p v = inner-room j ok p gp thin v (l, h) in (i .left, i .right);
     frame = frame;
     joins = λ u v c hu hv one e a b. stands-rule 1 up refl refl u v hu hv one
         (record { line = e; c = c; starts = a .lower; ends = a .upper; starts′ = b .lower; ends′ = b .upper });
-    ruled = ruled-of 1 up refl refl (λ u v w. w) (λ u v w. w) (λ v r. let i : Inner v = inner v r in (i .left, i .right));
+    ruled = ruled-of 1 up refl refl (λ u v w. w) (λ u v w. w) (λ v r. let i : Inner p v = inner-room j ok p gp thin v r in (i .left, i .right));
   }
     where
       point : {v x y : ℕ} → On (view 1) v y x → Point (rectOf p v) x y
@@ -283,7 +190,7 @@ module _ (j : Job) (ok : Passes j) (some-room : 0 < length j) (p : Plan) (gp : G
 
       -- a room lies between S and N
       gap : 3 ≤ p .height
-      gap = let i : Inner 4 = inner 4 (omega arith, omega arith) in omega (arith, i .lower, i .upper, gp .inside 4 (omega arith) .tall)
+      gap = let i : Inner p 4 = inner-room j ok p gp thin 4 (omega arith, omega arith) in omega (arith, i .lower, i .upper, gp .inside 4 (omega arith) .tall)
 
       frame : (v : ℕ) → v < 4 → (c : ℕ) → Along (view 1) v c → 1 ≤ c → suc c < view 1 .long → (view 1 .hi v ≡ 1) ⊎ (view 1 .lo v + 1 ≡ view 1 .wide)
       frame zero h c a l k = inr (thin .n-y1)

@@ -53,6 +53,16 @@ end-is S x (suc m) b e l h all free = go (ℕ-discrete b e) (end-is S x m (suc b
         let o : built S x b ≡ true = all b (omega arith) (omega arith) in
         rw o (below (omega arith) (omega arith) (λ c i k. all c (omega arith) k) free)
 
+-- no wall ends before it begins
+pub end-least : (S : List Stretch) (x m c : ℕ) → c ≤ endFrom S x m c
+unfolding endFrom
+end-least S x zero c = omega arith
+end-least S x (suc m) c = go (built S x c) (end-least S x m (suc c))
+  where
+    go : (b : Bool) → suc c ≤ endFrom S x m (suc c) → c ≤ cond b (endFrom S x m (suc c)) c
+    go true h = omega arith
+    go false h = omega arith
+
 -- from where a wall goes on to where it ends, every unit is built
 pub built-to : (S : List Stretch) (x m b k : ℕ) → b ≤ k → k < endFrom S x m b → built S x k ≡ true
 unfolding endFrom
@@ -96,3 +106,21 @@ starts-of S x zero e = (e, λ c q h. omega arith)
 starts-of S x (suc b) e =
     let (k, n) = and-parts (built S x (suc b)) (not (built S x b)) e in
     (k, λ c q h. let z : b ≡ c = omega arith in not-and (built S x b) n (rw z h))
+
+-- where the wall through a unit begins
+pub begin-of : (S : List Stretch) (x c : ℕ) → built S x c ≡ true → (b : ℕ) × (b ≤ c) × (starts S x b ≡ true) × ((k : ℕ) → b ≤ k → k ≤ c → built S x k ≡ true)
+unfolding starts
+begin-of S x zero e = (0, omega arith, e, λ k l h. let z : k ≡ 0 = omega arith in rw z e)
+begin-of S x (suc c) e = go (built S x c) refl (begin-of S x c)
+  where
+    go : (t : Bool) → built S x c ≡ t
+        → (built S x c ≡ true → (b : ℕ) × (b ≤ c) × (starts S x b ≡ true) × ((k : ℕ) → b ≤ k → k ≤ c → built S x k ≡ true))
+        → (b : ℕ) × (b ≤ suc c) × (starts S x b ≡ true) × ((k : ℕ) → b ≤ k → k ≤ suc c → built S x k ≡ true)
+    go false q below = (suc c, omega arith, rw (e, q) refl, λ k l h. let z : k ≡ suc c = omega arith in rw z e)
+    go true q below =
+        let (b, l, s, h) = below q in
+        (b, omega arith, s, λ k i n. last b h k i n (ℕ-discrete k (suc c)))
+      where
+        last : (b : ℕ) → ((k : ℕ) → b ≤ k → k ≤ c → built S x k ≡ true) → (k : ℕ) → b ≤ k → k ≤ suc c → Dec (k ≡ suc c) → built S x k ≡ true
+        last b h k i n (yes z) = rw z e
+        last b h k i n (no z) = h k i (omega arith)

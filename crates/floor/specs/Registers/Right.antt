@@ -21,8 +21,9 @@ use Rattle.floor.specs.Floor.{Complete, GoodPlan}
 use Rattle.floor.specs.Registers.{Stretch, lowSide, highSide, wideOf, longOf, Partition, earlier, axisOf, Lies, as-low, as-high, sidesFrom, WallOf}
 use Rattle.floor.specs.Registers.{Register, sidesIn, roomSides, built, starts, endFrom, between, partition, wallsOn, wallsOf, registerOf, register}
 use Rattle.floor.specs.Registers.Runs.{View, Seen, Edge, Run, Sided, low-sided, high-sided, run-joins, InRun, run-keeps, Held}
-use Rattle.floor.specs.Registers.Lines.{covers, covers-of, of-covers, between-of, of-between, built-to, starts-of}
-use Rattle.floor.specs.Registers.Floors.{viewOf, Thin, seen-upright, seen-level}
+use Rattle.floor.specs.Registers.Lines.{covers, covers-of, of-covers, between-of, of-between, end-least, built-to, starts-of, begin-of}
+use Rattle.floor.specs.Floor.Inner.{Thin}
+use Rattle.floor.specs.Registers.Floors.{viewOf, seen-upright, seen-level}
 
 -- both sides of a rectangle go from one place to the other
 pub same-span : (d : ℕ) (r : Rect) → (highSide d r .begins ≡ lowSide d r .begins) × (highSide d r .ends ≡ lowSide d r .ends)
@@ -31,7 +32,7 @@ same-span zero r = (refl, refl)
 same-span (suc d) r = (refl, refl)
 
 -- a side among those of some rooms
-sides-mem : (d : ℕ) (rs : List Rect) (t : Stretch) → List·Memᴰ t (sidesIn d rs)
+pub sides-mem : (d : ℕ) (rs : List Rect) (t : Stretch) → List·Memᴰ t (sidesIn d rs)
     → (i : ℕ) × (i < length rs) × ((t ≡ lowSide d (getD rs i nowhere)) ⊎ (t ≡ highSide d (getD rs i nowhere)))
 unfolding sidesIn
 sides-mem d [] t m = absurd (List·Memᴰ·not-nil m)
@@ -40,14 +41,14 @@ sides-mem d (r ∷ rs) t (List·Memᴰ·tail (List·Memᴰ·head e)) = (0, omega
 sides-mem d (r ∷ rs) t (List·Memᴰ·tail (List·Memᴰ·tail m)) = let (i, h, e) = sides-mem d rs t m in (suc i, omega arith, e)
 
 -- the low side of each rectangle is among the sides of all
-mem-low : (d : ℕ) (rs : List Rect) (i : ℕ) → i < length rs → List·Memᴰ (lowSide d (getD rs i nowhere)) (sidesIn d rs)
+pub mem-low : (d : ℕ) (rs : List Rect) (i : ℕ) → i < length rs → List·Memᴰ (lowSide d (getD rs i nowhere)) (sidesIn d rs)
 unfolding sidesIn
 mem-low d [] i h = absurd (omega arith)
 mem-low d (r ∷ rs) zero h = List·Memᴰ·head refl
 mem-low d (r ∷ rs) (suc i) h = List·Memᴰ·tail (List·Memᴰ·tail (mem-low d rs i (omega arith)))
 
 -- the high side of each rectangle is among the sides of all
-mem-high : (d : ℕ) (rs : List Rect) (i : ℕ) → i < length rs → List·Memᴰ (highSide d (getD rs i nowhere)) (sidesIn d rs)
+pub mem-high : (d : ℕ) (rs : List Rect) (i : ℕ) → i < length rs → List·Memᴰ (highSide d (getD rs i nowhere)) (sidesIn d rs)
 unfolding sidesIn
 mem-high d [] i h = absurd (omega arith)
 mem-high d (r ∷ rs) zero h = List·Memᴰ·tail (List·Memᴰ·head refl)
@@ -324,16 +325,6 @@ module _ (d : ℕ) (j : Job) (p : Plan) (cm : Complete j p) (f : Seen (viewOf (l
       high-sided v (r .1) e (ap (λ (t : Stretch). t .line) (sym t))
       (record { lower = omega (arith, ap (λ (t : Stretch). t .begins) t); upper = omega (arith, ap (λ (t : Stretch). t .ends) t) })
 
-  -- THE END OF A WALL that goes on from c lies at c or after
-  end-least : (x m c : ℕ) → c ≤ endFrom S x m c
-  unfolding endFrom
-  end-least x zero c = omega arith
-  end-least x (suc m) c = go (built S x c) (end-least x m (suc c))
-    where
-      go : (b : Bool) → suc c ≤ endFrom S x m (suc c) → c ≤ cond b (endFrom S x m (suc c)) c
-      go true h = omega arith
-      go false h = omega arith
-
   -- where a wall that goes on from c ends, the unit from there on is not built, or all m units were followed
   end-open : (x m c : ℕ) → (built S x (endFrom S x m c) ≡ false) ⊎ (endFrom S x m c ≡ c + m)
   unfolding endFrom
@@ -368,29 +359,11 @@ module _ (d : ℕ) (j : Job) (p : Plan) (cm : Complete j p) (f : Seen (viewOf (l
         where
           go : Dec (b ≡ endFrom S x long b) → b < endFrom S x long b
           go (yes q) = no-false (sym (rw (← q) at h) ∙ starts-of S x b e .0)
-          go (no q) = omega (arith, end-least x long b)
+          go (no q) = omega (arith, end-least S x long b)
 
       after : Edge w E f x (endFrom S x long b) → (built S x (endFrom S x long b) ≡ false) ⊎ (endFrom S x long b ≡ b + long) → ⊥
       after n (inl h) = no-false (sym h ∙ edge-built x (endFrom S x long b) n)
       after n (inr h) = omega (arith, inside-long x (endFrom S x long b) n)
-
-  -- where the wall through a unit begins
-  begin-of : (x c : ℕ) → built S x c ≡ true → (b : ℕ) × (b ≤ c) × (starts S x b ≡ true) × ((k : ℕ) → b ≤ k → k ≤ c → built S x k ≡ true)
-  unfolding starts
-  begin-of x zero e = (0, omega arith, e, λ k l h. let z : k ≡ 0 = omega arith in rw z e)
-  begin-of x (suc c) e = go (built S x c) refl (begin-of x c)
-    where
-      go : (t : Bool) → built S x c ≡ t
-          → (built S x c ≡ true → (b : ℕ) × (b ≤ c) × (starts S x b ≡ true) × ((k : ℕ) → b ≤ k → k ≤ c → built S x k ≡ true))
-          → (b : ℕ) × (b ≤ suc c) × (starts S x b ≡ true) × ((k : ℕ) → b ≤ k → k ≤ suc c → built S x k ≡ true)
-      go false q below = (suc c, omega arith, rw (e, q) refl, λ k l h. let z : k ≡ suc c = omega arith in rw z e)
-      go true q below =
-          let (b, l, s, h) = below q in
-          (b, omega arith, s, λ k i n. last b h k i n (ℕ-discrete k (suc c)))
-        where
-          last : (b : ℕ) → ((k : ℕ) → b ≤ k → k ≤ c → built S x k ≡ true) → (k : ℕ) → b ≤ k → k ≤ suc c → Dec (k ≡ suc c) → built S x k ≡ true
-          last b h k i n (yes z) = rw z e
-          last b h k i n (no z) = h k i (omega arith)
 
   -- a side that has a unit in a run lies in it
   side-in : {x b e : ℕ} → Run w E f x b e → (c s t : ℕ) (q r : Stretch) → Lies d j p s q → q .line ≡ x → b ≤ c → c < e → q .begins ≤ c → c < q .ends
@@ -547,7 +520,7 @@ module _ (d : ℕ) (j : Job) (p : Plan) (cm : Complete j p) (f : Seen (viewOf (l
   unfolding registerOf
   every-of s q l =
       let (a1, a2, a3, a4, a5) = lies-inside s q l in
-      let (b, h, t, all) = begin-of (q .line) (q .begins) (edge-built (q .line) (q .begins) (lies-edge s q l (q .begins) (omega arith) a4)) in
+      let (b, h, t, all) = begin-of S (q .line) (q .begins) (edge-built (q .line) (q .begins) (lies-edge s q l (q .begins) (omega arith) a4)) in
       let run : Run w E f (q .line) b (endFrom S (q .line) long b) = run-at (q .line) b t in
       let (y, z, g) = side-in run (q .begins) s s q q l refl h (reaches b h t all (decLt (q .begins) (endFrom S (q .line) long b))) (omega arith) a4 l here in (
         partition d S long (q .line) b,
@@ -560,7 +533,7 @@ module _ (d : ℕ) (j : Job) (p : Plan) (cm : Complete j p) (f : Seen (viewOf (l
       reaches b h t all (yes k) = k
       reaches b h t all (no k) =
           absurd (run-at (q .line) b t .after (built-edge (q .line) (endFrom S (q .line) long b)
-          (all (endFrom S (q .line) long b) (end-least (q .line) long b) (omega arith))))
+          (all (endFrom S (q .line) long b) (end-least S (q .line) long b) (omega arith))))
 
 -- THE REGISTER COUNTED AFRESH IS THE REGISTER BY THE CONTACTS, of every plan that is held
 module _ (j : Job) (ok : Passes j) (some-room : 0 < length j) (p : Plan) (gp : GoodPlan j p) (thin : Thin p) where

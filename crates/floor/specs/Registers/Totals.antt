@@ -15,7 +15,8 @@ use Rattle.floor.specs.Floor.{Complete, GoodPlan}
 use Rattle.floor.specs.Registers.{Stretch, wideOf, longOf, Partition, earlier, axisOf, Lies, WallOf, sidesIn, roomSides, starts, between, partition}
 use Rattle.floor.specs.Registers.{registerOf, register}
 use Rattle.floor.specs.Registers.Runs.{Seen}
-use Rattle.floor.specs.Registers.Floors.{viewOf, Thin}
+use Rattle.floor.specs.Floor.Inner.{Thin}
+use Rattle.floor.specs.Registers.Floors.{viewOf}
 use Rattle.floor.specs.Registers.Right.{side-lies, lies-mem, walls-mem, lines-order, wall-of, each-of, every-of, rooms-count, upright-seen, level-seen}
 use Rattle.floor.specs.Registers.Lines.{of-between}
 use Rattle.floor.specs.Registers.Unique.{never-both, wall-one}

@@ -1,6 +1,6 @@
 use Rattle.floor.specs.Tracker.{code}
 use Rattle.board.specs.Boards.{replyOf}
-use Rattle.tirunoiwa.proofs.Codes.{wrote-fits, code-touched, code-wrote}
+use Rattle.tirunoiwa.proofs.Codes.{wrote-fits, code-touched, code-says, code-wrote}
 use borrow.Author.Needs.{needs}
 use Rattle.tirunoiwa.proofs.answer.code_of.Statement.{statement}
 use Rattle.tirunoiwa.proofs.answer.code_of.Tie as tie
@@ -29,8 +29,17 @@ add-result c = search needs
 enum-known-reply-3 : tie.Need-enum-known-reply-3
 enum-known-reply-3 c = search needs
 
+code-of-yes-requires : tie.Need-code-of-yes-requires
+code-of-yes-requires c κs = search needs
+
 add-result-2 : tie.Need-add-result-2
-add-result-2 c = search (wrote-fits, needs)
+add-result-2 c = search needs
+
+enum-known-reply-4 : tie.Need-enum-known-reply-4
+enum-known-reply-4 c = search needs
+
+add-result-3 : tie.Need-add-result-3
+add-result-3 c = search (wrote-fits, needs)
 
 returns : tie.Need-returns
 unfolding code replyOf
@@ -48,7 +57,10 @@ returns-4 : tie.Need-returns-4
 returns-4 c = search (code-touched, needs)
 
 returns-5 : tie.Need-returns-5
-returns-5 c = search (code-wrote, needs)
+returns-5 c = search (code-says, needs)
+
+returns-6 : tie.Need-returns-6
+returns-6 c = search (code-wrote, needs)
 
 pub code-of-spec : {M : Type 1} → statement M
 code-of-spec =
@@ -62,9 +74,13 @@ code-of-spec =
     code-of-touch-requires
     add-result
     enum-known-reply-3
+    code-of-yes-requires
     add-result-2
+    enum-known-reply-4
+    add-result-3
     returns
     returns-2
     returns-3
     returns-4
-    returns-5)
+    returns-5
+    returns-6)

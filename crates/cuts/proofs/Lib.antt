@@ -1,0 +1,7 @@
+mod Linking
+mod Arranging
+mod Looking
+mod Running
+mod Ordered
+mod Writing
+pub mod Corollaries

@@ -1,0 +1,5 @@
+pub mod Rows
+pub mod Orders
+pub mod Links
+pub mod Tasks
+pub mod Runs
