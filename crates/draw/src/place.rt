@@ -127,9 +127,9 @@ pub fn picture_width(sheet: Sheet) -> usize
     across(sheet, sheet.width) + side(sheet)
 }
 
-// How high the whole picture is, with four lines of words at the bottom.
+// How high the whole picture is, with five lines of words at the bottom.
 pub fn picture_height(sheet: Sheet) -> usize
     ensures { λ r. ⌜ (144 ≤ r) × (r < 5500000) ⌝ }
 {
-    down(sheet, 0) + 76
+    down(sheet, 0) + 85
 }

@@ -50,7 +50,7 @@ fn frame(sheet: Sheet) {
     let bottom = place::down(sheet, 0);
     open(sheet, bottom + 30, 11);
     pen::word(b">The grey strip, one cell wide, is the frame: sides N, W, S and E.</text>\n");
-    open(sheet, bottom + 43, 11);
+    open(sheet, bottom + 42, 11);
     pen::word(b">Rooms begin at line 1 and end at line ");
     pen::number(fields::number(place::last(sheet.width)));
     pen::word(b" across and line ");
@@ -60,7 +60,7 @@ fn frame(sheet: Sheet) {
 
 // How the walls are marked, as in the joiner's list, or what the numbers on them are.
 fn marks(sheet: Sheet, marked: Marked) {
-    open(sheet, place::down(sheet, 0) + 56, 11);
+    open(sheet, place::down(sheet, 0) + 54, 11);
     match marked {
         Marked::Walls => pen::word(
             b">Walls are marked as in the joiner's list: W upright, L level.",
@@ -74,10 +74,16 @@ fn marks(sheet: Sheet, marked: Marked) {
 
 // How the lines are counted, and how large a cell is where the page is large enough.
 fn scale(sheet: Sheet) {
-    open(sheet, place::down(sheet, 0) + 69, 11);
+    open(sheet, place::down(sheet, 0) + 66, 11);
     pen::word(b">x runs west to east, y south to north. At full size a cell is ");
     pen::tenths(place::cell(sheet) * 3);
     pen::word(b" mm.</text>\n");
+}
+
+// That nobody can do with less, which is proved of every plan.
+fn smallest(sheet: Sheet) {
+    open(sheet, place::down(sheet, 0) + 78, 11);
+    pen::word(b">No sheet with these contacts is smaller.</text>\n");
 }
 
 // How the picture is read.
@@ -85,4 +91,5 @@ pub fn key(sheet: Sheet, marked: Marked) {
     frame(sheet);
     marks(sheet, marked);
     scale(sheet);
+    smallest(sheet);
 }

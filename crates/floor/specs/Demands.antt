@@ -33,6 +33,8 @@ use Rattle.floor.specs.Calls.Effects.{refused-leaves, write-load, load-w
 use Rattle.floor.specs.Calls.Always.{turn-done, turn-refused}
 use Rattle.floor.specs.Calls.Exact.{drawn-numbered, accepted, load-answers, turned-exactly}
 use Rattle.floor.specs.Calls.Starts.{load-alike, loaded-alike, step-alike, run-alike}
+use Rattle.floor.specs.Smallest.{Placing, OneLine, NothingSmaller}
+use Rattle.floor.specs.Smallest.Held.{held-placing, held-lines, held-smallest}
 
 -- DEMAND 1. Every job, however damaged or contradictory, gets an answer: a plan or one numbered refusal.
 pub every-job-answered : (bs : List ℕ) → Answers ofLoad (load bs)
@@ -92,6 +94,19 @@ any-calls-numbers cs j p h = any-calls-held cs j p h .numbers
 -- And the sheet, of every accepted job and turned plan, is never wider or higher than the number of rooms plus 2.
 pub any-calls-bound : (cs : List Call) (j : Job) (p : Plan) → run empty cs ≡ holding j p → (p .width ≤ length j + 2) × (p .height ≤ length j + 2)
 any-calls-bound cs j p h = any-calls-held cs j p h .bound
+
+-- NOTHING SMALLER WITH THE SAME CONTACTS. Take any placing of all rectangles in which every contact of the labelling now held is met: no wall there has a
+-- smaller number than in the plan now held, and neither its width nor its height is smaller.
+pub any-calls-smallest : (cs : List Call) (j : Job) (p : Plan) → run empty cs ≡ holding j p → (q : Plan) → Placing j q → NothingSmaller j p q
+any-calls-smallest cs j p h = held-smallest j p (any-calls-sound cs j p h)
+
+-- A wall there is one line: the contacts force the sides of each wall of the labelling to lie at one place.
+pub any-calls-lines : (cs : List Call) (j : Job) (p : Plan) → run empty cs ≡ holding j p → (q : Plan) → Placing j q → OneLine j q
+any-calls-lines cs j p h = held-lines j p (any-calls-sound cs j p h)
+
+-- The plan now held is itself such a placing.
+pub any-calls-placing : (cs : List Call) (j : Job) (p : Plan) → run empty cs ≡ holding j p → Placing j p
+any-calls-placing cs j p h = held-placing j p (any-calls-sound cs j p h)
 
 -- Asked how two vertices touch, it finds a wall exactly if the job joins them or they are neighbouring sides of the frame;
 pub any-calls-touch : (cs : List Call) (j : Job) (p : Plan) → run empty cs ≡ holding j p

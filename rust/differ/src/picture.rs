@@ -63,7 +63,7 @@ impl Sheet {
 
     /// How large the whole picture is.
     fn size(&self) -> (usize, usize) {
-        (self.across(self.width) + self.left, self.down(0) + 76)
+        (self.across(self.width) + self.left, self.down(0) + 85)
     }
 }
 
@@ -321,7 +321,7 @@ fn told(sheet: &Sheet, marked: Marked, name: &[u8], job: &[u8]) -> Vec<Words> {
             "The grey strip, one cell wide, is the frame: sides N, W, S and E.".into(),
         ),
         (
-            bottom + 43,
+            bottom + 42,
             11,
             format!(
                 "Rooms begin at line 1 and end at line {} across and line {} up.",
@@ -329,14 +329,19 @@ fn told(sheet: &Sheet, marked: Marked, name: &[u8], job: &[u8]) -> Vec<Words> {
                 sheet.height - 1
             ),
         ),
-        (bottom + 56, 11, marks.into()),
+        (bottom + 54, 11, marks.into()),
         (
-            bottom + 69,
+            bottom + 66,
             11,
             format!(
                 "x runs west to east, y south to north. At full size a cell is {} mm.",
                 millimetres(sheet.cell)
             ),
+        ),
+        (
+            bottom + 78,
+            11,
+            "No sheet with these contacts is smaller.".into(),
         ),
     ];
     let x = sheet.size().0 / 2;

@@ -1,25 +1,26 @@
 -- Nothing smaller with the same contacts: no placing that meets every contact has a smaller number anywhere. Assumes nothing.
 use mathlib.Core.Path.{_≡_, refl, sym, _∙_}
 use mathlib.Core.List.{[], List·Memᴰ}
-use Prim.Native.Nat.{ℕ, _+_, _≤_, _<_, max}
+use Prim.Native.Nat.{ℕ, _+_, _-_, _≤_, _<_, max}
 use native.Mathlib.Omega.{arith}
 use lib.ListN.{length, getD}
 use Rattle.floor.specs.Jobs.{Entry, Job, Vertex, Room, starOf}
 use Rattle.floor.specs.Jobs.Facts.{Passes, star-at}
-use Rattle.floor.specs.Walls.{Numbers, upright, level, low, high, rules}
-use Rattle.floor.specs.Walls.Rules.{Obeys, to-vertex, least-below, sided, sided-low, sided-high, sided-same, sided-before}
+use Rattle.floor.specs.Walls.{Numbers, OnWall, upright, level, low, high, rules}
+use Rattle.floor.specs.Walls.Walk.{onwall-eq}
+use Rattle.floor.specs.Walls.Rules.{Obeys, obeys-respects, to-vertex, least-below, sided, sided-low, sided-high, sided-same, sided-before}
 use Rattle.floor.specs.Plans.{Plan, rectOf}
 use Rattle.floor.specs.Floor.{Stands}
 use Rattle.floor.specs.Floor.Sides.{Side, up, right, opp}
 use Rattle.floor.specs.Floor.Read.{num, few-sides, every-kind, entry-ok}
 use Rattle.floor.specs.Floor.Ours.{Way, Lies, lies}
+use Rattle.floor.specs.Smallest.{Placing, LiesAt, low-of, high-of, of-first, of-last}
 
--- ours is no larger, side by side
-pub record NoLarger (j : Job) (f from to : ℕ → ℕ) (first last : ℕ) : Type 0 where
-  pub at-low : (i : ℕ) → i < length j → f (low (4 + i)) ≤ from (4 + i)
-  pub at-high : (i : ℕ) → i < length j → f (high (4 + i)) ≤ to (4 + i)
-  pub at-first : f (high first) ≤ to first
-  pub at-last : f (low last) ≤ from last
+-- IN ONE DIRECTION each side of a wall lies at its number or further on, and the sides of one wall at one place
+pub record NoLarger (j : Job) (w : Way j) (from to : ℕ → ℕ) : Type 0 where
+  pub further : (s x : ℕ) → LiesAt j (num (opp (w .to))) (num (w .to)) from to s x → w .number-of s ≤ x
+  pub one-line : (s t x y : ℕ) → OnWall (rules (w .axis) j) s t → LiesAt j (num (opp (w .to))) (num (w .to)) from to s x
+      → LiesAt j (num (opp (w .to))) (num (w .to)) from to t y → x ≡ y
 
 -- one direction; c is the side of its cross contacts
 module _ (j : Job) (ok : Passes j) (some-room : 0 < length j) (w : Way j) (c : Side) (is-cross : w .axis .cross ≡ num c) (from to : ℕ → ℕ)
@@ -50,28 +51,39 @@ module _ (j : Job) (ok : Passes j) (some-room : 0 < length j) (w : Way j) (c : S
   least : (n : ℕ) → w .number-of n ≤ max 1 (sided from to n)
   least = least-below (w .axis) j (to-vertex j ok) (w .number-of) (sided from to) (w .numbers) obeys (λ i h. rw (sided-low from to (4 + i)) (positive i h))
 
-  -- ours is no larger at any side of a room, nor at the first and the last frame side's wall
-  pub no-larger : NoLarger j (w .number-of) from to (num (opp (w .to))) (num (w .to))
+  -- a side's place by its number
+  place : (s x : ℕ) → LiesAt j (num (opp (w .to))) (num (w .to)) from to s x → x ≡ sided from to s
+  place s x (low-of u r) = sym (sided-low from to u)
+  place s x (high-of u r) = sym (sided-high from to u)
+  place s x of-first = sym (sided-high from to (num (opp (w .to))))
+  place s x of-last = sym (sided-low from to (num (w .to)))
+
+  -- it lies past the first cell
+  past-one : (s x : ℕ) → LiesAt j (num (opp (w .to))) (num (w .to)) from to s x → 1 ≤ x
+  past-one s x (low-of u r) = rw (let e : 4 + (u - 4) ≡ u = omega (arith, r .0) in e) at (positive (u - 4) (omega (arith, r .0, r .1)))
+  past-one s x (high-of u r) = omega (arith, thick u (r .1))
+  past-one s x of-first = omega (arith, thick (num (opp (w .to))) (omega (arith, few-sides (opp (w .to)))))
+  past-one s x of-last =
+      let l : Lies j ok w 0 = lies j ok w 0 some-room in
+      omega (arith, rw (sided-low from to (num (w .to))) at (least (low (num (w .to)))), l .first, l .own, l .last)
+
+  -- no side of a wall lies before its number, and those of one wall lie on one line
+  pub no-larger : NoLarger j w from to
   no-larger = record {
-    at-low = λ i h. omega (arith, rw (sided-low from to (4 + i)) at (least (low (4 + i))), positive i h);
-    at-high = λ i h. omega (arith, rw (sided-high from to (4 + i)) at (least (high (4 + i))), thick (4 + i) (omega arith));
-    at-first =
-        omega (
-          arith,
-          rw (sided-high from to (num (opp (w .to)))) at (least (high (num (opp (w .to))))),
-          thick (num (opp (w .to)))
-              (omega (arith, few-sides (opp (w .to)))),
-        );
-    at-last =
-        let l : Lies j ok w 0 = lies j ok w 0 some-room in
-        omega (arith, rw (sided-low from to (num (w .to))) at (least (low (num (w .to)))), l .first, l .own, l .last);
+    further = λ s x l. omega (arith, least s, place s x l, past-one s x l);
+    one-line = λ s t x y o k l.
+        place s x k ∙ (onwall-eq (sided from to) (obeys-respects (w .axis) (sided from to) j obeys) o ∙ sym (place t y l));
   }
 
--- a placing of all vertices, each at least a cell, in which every contact is met on its labelled side
-pub record Placing (j : Job) (p : Plan) : Type 0 where
-  pub wide : (v : ℕ) → Vertex j v → rectOf p v .x1 < rectOf p v .x2
-  pub tall : (v : ℕ) → Vertex j v → rectOf p v .y1 < rectOf p v .y2
-  pub met : (u : ℕ) → Room j u → (e : Entry) → List·Memᴰ e (starOf j u) → Stands (e .kind) (rectOf p u) (rectOf p (e .to))
+-- the two directions, with their numbers
+module _ {j : Job} (f : ℕ → ℕ) where
+  -- from W to E
+  abbrev pub across : Numbers (rules upright j) f → Way j
+  across n = record { axis = upright; to = right; is-far = refl; is-near = refl; number-of = f; numbers = n }
+
+  -- from S to N
+  abbrev pub upward : Numbers (rules level j) f → Way j
+  upward n = record { axis = level; to = up; is-far = refl; is-near = refl; number-of = f; numbers = n }
 
 module _ (j : Job) (ok : Passes j) (some-room : 0 < length j) (p : Plan) (g : Placing j p) where
   -- each entry's neighbour stands on the side of its kind
@@ -79,16 +91,9 @@ module _ (j : Job) (ok : Passes j) (some-room : 0 < length j) (p : Plan) (g : Pl
   stands i h e m k q = rw q at (g .met (4 + i) (omega arith, omega arith) e (rw (star-at j i) m))
 
   -- NOTHING SMALLER, in either direction
-  pub nothing-narrower : (f : ℕ → ℕ) → Numbers (rules upright j) f → NoLarger j f (λ v. rectOf p v .x1) (λ v. rectOf p v .x2) 1 3
+  pub nothing-narrower : (f : ℕ → ℕ) (n : Numbers (rules upright j) f) → NoLarger j (across f n) (λ v. rectOf p v .x1) (λ v. rectOf p v .x2)
   nothing-narrower f n =
-      no-larger j ok some-room (record {
-        axis = upright;
-        to = right;
-        is-far = refl;
-        is-near = refl;
-        number-of = f;
-        numbers = n;
-      }) up refl (λ v. rectOf p v .x1) (λ v. rectOf p v .x2) (g .wide)
+      no-larger j ok some-room (across f n) up refl (λ v. rectOf p v .x1) (λ v. rectOf p v .x2) (g .wide)
       (λ i h e m. (
         λ q. stands i h e m 3 q .line,
         λ q. sym (stands i h e m 1 q .line),
@@ -97,16 +102,9 @@ module _ (j : Job) (ok : Passes j) (some-room : 0 < length j) (p : Plan) (g : Pl
       ))
 
   -- no level number is larger than the place of that side in any such placing
-  pub nothing-lower : (f : ℕ → ℕ) → Numbers (rules level j) f → NoLarger j f (λ v. rectOf p v .y1) (λ v. rectOf p v .y2) 2 0
+  pub nothing-lower : (f : ℕ → ℕ) (n : Numbers (rules level j) f) → NoLarger j (upward f n) (λ v. rectOf p v .y1) (λ v. rectOf p v .y2)
   nothing-lower f n =
-      no-larger j ok some-room (record {
-        axis = level;
-        to = up;
-        is-far = refl;
-        is-near = refl;
-        number-of = f;
-        numbers = n;
-      }) right refl (λ v. rectOf p v .y1) (λ v. rectOf p v .y2) (g .tall)
+      no-larger j ok some-room (upward f n) right refl (λ v. rectOf p v .y1) (λ v. rectOf p v .y2) (g .tall)
       (λ i h e m. (
         λ q. stands i h e m 0 q .line,
         λ q. sym (stands i h e m 2 q .line),
