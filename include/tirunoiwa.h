@@ -10,8 +10,10 @@
  *    4  a neighbour or kind that cannot be  12  a list has fewer than two
  *    5  not a star                          13  no such vertex
  *    6  a contact that one room lacks       14  the buffer is too short
- *                                           15  no straight cuts take the floor apart
- * 8 is not used.
+ *   17  a least size outside 1 to 15, or    15  no straight cuts take the floor apart
+ *       all of them 1                       18  the sheet is over 250 cells wide or high
+ * 8 is not used. Of a job's refusals the first is told, in the order 1, 2, 1, 3, 4, 5, 6, 17, 7, 18, 9: of the first field, the number of rooms, the other
+ * fields, and so on.
  * From 256 on it is 256 plus a value: the number of bytes written, or how two vertices touch.
  *
  * tirunoiwa_share, which told yes or no, is gone; tirunoiwa_touch stands in its place, and tells no wall exactly where it told no.
@@ -33,41 +35,45 @@ extern "C" {
 
 /*
  * Buffers that always suffice: for a plan, a sheet and 64 rectangles; for the walls, 63 of them; for the cuts, 60 rooms and 59 cuts; for a turned job, 60
- * stars of 360 pairs. A star is never longer than its job.
+ * stars of 360 pairs and the field of least sizes. A star is never longer than its job.
  */
 #define TIRUNOIWA_PLAN_MOST (5 + 64 * 8)
 #define TIRUNOIWA_WALLS_MOST (63 * 8)
 #define TIRUNOIWA_CUTS_MOST (60 * 4 + 59 * 5)
-#define TIRUNOIWA_JOB_MOST (4 + 60 * 3 + 360 * 2)
+#define TIRUNOIWA_JOB_MOST (4 + 60 * 3 + 360 * 2 + 3 + 60 * 2)
 
-/* Reads a job and writes its plan to the front of `out`. Answers 256 + the plan's length, or 1 to 7, 9, 14. */
+/* Reads a job and writes its plan to the front of `out`. Answers 256 + the plan's length, or 1 to 7, 9, 14, 17, 18. */
 size_t tirunoiwa_plan(const uint8_t *job, size_t job_length, uint8_t *out, size_t out_length);
 
 /*
  * Reads a job and writes the walls of its plan to the front of `out`, for the joiner: a field of tag 8, length 5 each (direction 0 upright or 1 level, number,
- * beginning, end, room sides), upright walls first, then by number, then by beginning. Answers 256 + the length, or 1 to 7, 9, 14.
+ * beginning, end, room sides), upright walls first, then by number, then by beginning. Answers 256 + the length, or 1 to 7, 9, 14,
+ * 17, 18.
  */
 size_t tirunoiwa_walls(const uint8_t *job, size_t job_length, uint8_t *out, size_t out_length);
 
 /*
  * Reads a job and writes the tree of straight cuts that take its rooms apart to the front of `out`: a cut is a field of tag 5, length 2 (direction 0 upright or
  * 1 level, place), behind which its left or lower part follows and then the other; a room is a field of tag 6, length 1. The leftmost upright cut comes first,
- * where there is none the lowest level one. Answers 256 + the length, or 1 to 7, 9, 15, 14.
+ * where there is none the lowest level one. Answers 256 + the length, or 1 to 7, 9, 17, 18, then 15, then 14.
  */
 size_t tirunoiwa_cuts(const uint8_t *job, size_t job_length, uint8_t *out, size_t out_length);
 
-/* Reads a job, turns the contact of rooms u and v, and writes the turned job to the front of `out`. Answers 256 + its length, or 1 to 7, 9, 11, 12, 14. */
+/*
+ * Reads a job, turns the contact of rooms u and v, and writes the turned job, with the least sizes that it came with, to the front of `out`. Answers 256 + its
+ * length, or 1 to 7, 9, 11, 12, 14, 17, 18; 18 also where the turned sheet would be too large.
+ */
 size_t tirunoiwa_turned(const uint8_t *job, size_t job_length, size_t u, size_t v, uint8_t *out, size_t out_length);
 
 /*
- * Writes the bytes of a room's star to the front of `out`; none where the job's bytes fail test 1 or 2 or have no such room. Tests 3 to 7 and 9 are not made.
+ * Writes the bytes of a room's star to the front of `out`; none where the job's bytes fail test 1 or 2 or have no such room. The other tests are not made.
  * Answers 256 + the star's length, or 14.
  */
 size_t tirunoiwa_star(const uint8_t *job, size_t job_length, size_t room, uint8_t *out, size_t out_length);
 
 /*
  * Reads a job; how vertices u and v touch. Answers 256 for no wall between them, or u and v one vertex; else 256 + 4 * the length of wall they share + the side
- * on which v stands, seen from u: 0 above, 1 to the left, 2 below, 3 to the right; or 1 to 7, 9, 13. The length is at least 1.
+ * on which v stands, seen from u: 0 above, 1 to the left, 2 below, 3 to the right; or 1 to 7, 9, 13, 17, 18. The length is at least 1.
  */
 size_t tirunoiwa_touch(const uint8_t *job, size_t job_length, size_t u, size_t v);
 

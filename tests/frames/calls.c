@@ -24,6 +24,8 @@ struct held {
     uint16_t ends[60];
     uint16_t nbr[360];
     uint8_t kind[360];
+    uint8_t told;
+    uint8_t sizes[120];
     uint8_t rooms;
     uint16_t width;
     uint16_t height;

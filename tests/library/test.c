@@ -4,7 +4,7 @@
 #include <stdio.h>
 #include <string.h>
 
-#define MOST 1024
+#define MOST 1100
 #define SIZE(array) (sizeof(array) / sizeof((array)[0]))
 
 /* The floor F of document 01, its plan, F with the contact of 5 and 6 turned (P9), and the plan of that. */
@@ -81,6 +81,34 @@ static const uint8_t PINWHEEL[] = {
     2, 0, 10, 0, 0, 7, 1, 8, 2, 5, 2, 3, 3,
     2, 0, 10, 0, 0, 1, 1, 4, 2, 8, 3, 6, 3,
     2, 0, 8, 6, 0, 7, 1, 4, 2, 5, 3,
+};
+/* F and P9 with least sizes of rooms 4 to 7, 1 by 3, 3 by 2, 2 by 1 and 1 by 2, and the plan of the first. */
+static const uint8_t SIZED[] = {
+    1, 0, 1, 4,
+    2, 0, 8, 0, 0, 1, 1, 6, 2, 5, 3,
+    2, 0, 10, 0, 0, 4, 1, 6, 1, 7, 2, 3, 3,
+    2, 0, 10, 4, 0, 1, 1, 2, 2, 7, 3, 5, 3,
+    2, 0, 8, 5, 0, 6, 1, 2, 2, 3, 3,
+    7, 0, 8, 1, 3, 3, 2, 2, 1, 1, 2,
+};
+static const uint8_t SIZED_P9[] = {
+    1, 0, 1, 4,
+    2, 0, 8, 0, 0, 1, 1, 6, 2, 5, 3,
+    2, 0, 10, 0, 0, 4, 1, 6, 2, 7, 2, 3, 3,
+    2, 0, 10, 4, 0, 1, 1, 2, 2, 7, 3, 5, 0,
+    2, 0, 8, 5, 0, 6, 1, 2, 2, 3, 3,
+    7, 0, 8, 1, 3, 3, 2, 2, 1, 1, 2,
+};
+static const uint8_t SIZED_PLAN[] = {
+    3, 0, 2, 7, 8,
+    4, 0, 5, 0, 1, 7, 6, 8,
+    4, 0, 5, 1, 0, 0, 1, 8,
+    4, 0, 5, 2, 1, 0, 6, 1,
+    4, 0, 5, 3, 6, 0, 7, 8,
+    4, 0, 5, 4, 1, 4, 3, 7,
+    4, 0, 5, 5, 3, 3, 6, 7,
+    4, 0, 5, 6, 1, 1, 3, 4,
+    4, 0, 5, 7, 3, 1, 6, 3,
 };
 /* No rooms; no bytes; F without the contact of 5 and 6. */
 static const uint8_t P2[] = {1, 0, 1, 0};
@@ -289,6 +317,55 @@ static void turns(void)
     refused("a turn of no vertex", tirunoiwa_turned(F, SIZE(F), SIZE_MAX, 5, lend(), MOST), 11);
 }
 
+/* Least sizes: planned, kept by a turn, refused by 17, and by 1 where their field is too short. */
+static void sizes(void)
+{
+    static uint8_t job[SIZE(SIZED)];
+    wrote("F with sizes planned", tirunoiwa_plan(SIZED, SIZE(SIZED), lend(), MOST), SIZED_PLAN, SIZE(SIZED_PLAN));
+    wrote("F with sizes turned", tirunoiwa_turned(SIZED, SIZE(SIZED), 5, 6, lend(), TIRUNOIWA_JOB_MOST), SIZED_P9, SIZE(SIZED_P9));
+    wrote("and turned again", tirunoiwa_turned(SIZED_P9, SIZE(SIZED_P9), 6, 5, lend(), SIZE(SIZED)), SIZED, SIZE(SIZED));
+    refused("F with sizes turned, a byte too short", tirunoiwa_turned(SIZED, SIZE(SIZED), 5, 6, lend(), SIZE(SIZED) - 1), 14);
+    walled("5 to the right of 4, three cells", tirunoiwa_touch(SIZED, SIZE(SIZED), 4, 5), 3, 3);
+    wrote("star of 6 beside sizes", tirunoiwa_star(SIZED, SIZE(SIZED), 6, lend(), MOST), STAR_6, SIZE(STAR_6));
+    memcpy(job, SIZED, SIZE(SIZED));
+    memset(job + SIZE(F) + 3, 1, 8);
+    refused("sizes of 1 throughout", tirunoiwa_plan(job, SIZE(job), lend(), MOST), 17);
+    job[SIZE(job) - 1] = 16;
+    refused("a size of 16", tirunoiwa_walls(job, SIZE(job), lend(), MOST), 17);
+    job[SIZE(job) - 1] = 0;
+    refused("a size of 0, turned", tirunoiwa_turned(job, SIZE(job), 5, 6, lend(), MOST), 17);
+    refused("sizes cut short", tirunoiwa_plan(SIZED, SIZE(SIZED) - 1, lend(), MOST), 1);
+}
+
+/* A row of rooms, each 15 wide: 16 of them are planned, 17 are too wide. */
+static void rows_of_wide_rooms(void)
+{
+    static uint8_t job[TIRUNOIWA_JOB_MOST];
+    for (uint8_t rooms = 16; rooms <= 17; rooms++) {
+        const uint8_t first[] = {1, 0, 1, rooms};
+        const uint8_t sizes[] = {7, 0, (uint8_t)(2 * rooms)};
+        static const uint8_t size[] = {15, 1};
+        uint8_t *end = put_bytes(job, first, SIZE(first));
+        for (uint8_t v = 4; v < rooms + 4; v++) {
+            const uint8_t left = v == 4 ? 1 : (uint8_t)(v - 1);
+            const uint8_t right = v == rooms + 3 ? 3 : (uint8_t)(v + 1);
+            const uint8_t star[] = {2, 0, 8, 0, 0, left, 1, 2, 2, right, 3};
+            end = put_bytes(end, star, SIZE(star));
+        }
+        end = put_bytes(end, sizes, SIZE(sizes));
+        for (uint8_t room = 0; room < rooms; room++) {
+            end = put_bytes(end, size, SIZE(size));
+        }
+        const size_t length = (size_t)(end - job);
+        if (rooms == 16) {
+            walled("N above a room 15 wide", tirunoiwa_touch(job, length, 19, 0), 0, 15);
+        } else {
+            refused("17 rooms, each 15 wide", tirunoiwa_plan(job, length, lend(), MOST), 18);
+            refused("17 rooms, asked", tirunoiwa_touch(job, length, 19, 0), 18);
+        }
+    }
+}
+
 static void stars(void)
 {
     wrote("star of 6", tirunoiwa_star(F, SIZE(F), 6, lend(), MOST), STAR_6, SIZE(STAR_6));
@@ -326,6 +403,8 @@ int main(void)
     cuts();
     row_of_sixty();
     turns();
+    sizes();
+    rows_of_wide_rooms();
     stars();
     touches();
     if (wrong != 0) {

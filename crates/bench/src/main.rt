@@ -49,12 +49,15 @@ fn circles(walls: Walls) -> u64 {
 fn total(stars: Stars, rounds: u64) -> u64 {
     let mut sum: u64 = 0;
     let mut left = rounds;
+    let sizes = stars::least::none_told();
     while 0 < left {
         let walls = walls::walls_of(
             &stars.ends,
             &stars.nbr,
             &stars.kind,
             fields::wide(stars.count),
+            fields::wide(sizes.told),
+            &sizes.list,
         );
         sum = std::num::wrapping_add_u64(sum, weight(walls));
         sum = std::num::wrapping_add_u64(sum, circles(walls));

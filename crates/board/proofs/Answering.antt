@@ -7,8 +7,8 @@ use mathlib.Core.List.{List, []}
 use borrow.Author.Tests.{ne-eqb, eq-eqb, not-true, not-false}
 use lib.Dec.{leb}
 use lib.ListN.{length, getD}
-use Rattle.floor.specs.Jobs.{Job, isVertex, fails, reads, readJob, firstSix, writeJob}
-use Rattle.floor.specs.Jobs.Facts.{six-passed, passes-of}
+use Rattle.floor.specs.Jobs.{Job, SizedJob, sizedJob, isVertex, fails, reads, readJob, firstSix, sizesPass, writeSized}
+use Rattle.floor.specs.Jobs.Facts.{six-passed, sizes-passed, passes-of}
 use Rattle.floor.specs.Jobs.Written.{read-test2}
 use Rattle.floor.specs.Plans.{Plan, Answer, refused, held, nowhere, rectOf, clear, touchOf, writePlan, drawRead}
 use Rattle.floor.specs.Registers.{Partition, writeRegister}
@@ -19,11 +19,13 @@ use Rattle.fields.specs.declared.Written.{Written}
 use Rattle.fields.specs.declared.Written.the-variants.{Wrote as WroteSo, TooShort}
 use Rattle.fields.specs.Writes.{replied, writing}
 use Rattle.stars.specs.declared.Stars.{Stars}
+use Rattle.stars.specs.declared.Sizes.{Sizes as HeldSizes}
 use Rattle.stars.specs.Held.{jobIn, jobOf, noStars, heldOf}
+use Rattle.stars.specs.Sized.{sizesIn, sizesOf, noSizes, heldSizes}
 use Rattle.stars.proofs.Holding.{length-stars, job-stars}
 use Rattle.jobs.specs.declared.Read.{Read}
 use Rattle.jobs.specs.declared.Answer.the-variants.{Passed, Refused as Failed}
-use Rattle.jobs.specs.Reads.{said as readSaid, kept as readKept, outcome as readOutcome, Tells as ReadTells}
+use Rattle.jobs.specs.Reads.{said as readSaid, kept as readKept, keptSizes as readKeptSizes, outcome as readOutcome, Tells as ReadTells}
 use Rattle.drawing.specs.declared.Rect.{Rect as HeldRect}
 use Rattle.drawing.specs.declared.Touch.{Touch}
 use Rattle.drawing.specs.declared.Touch.the-variants.{Clear}
@@ -48,21 +50,22 @@ use Rattle.board.specs.declared.Planned.{Planned}
 use Rattle.board.specs.declared.Reply.{Reply as Said}
 use Rattle.board.specs.declared.Reply.the-variants.{Refused, Done, Spans, Touched, Says, Wrote}
 use Rattle.board.specs.declared.Step.{Step as Handed}
-use Rattle.board.specs.Boards.{boardFor, noBoard, boardOf, kept, Plans, replyOf, handed, Outcome, asRules, staying, stayed, newly, turnedTo, outcome, Tells}
+use Rattle.board.specs.Boards.{boardFor, noBoard, heldJob, boardOf, kept, Plans, replyOf, handed, Outcome, asRules, staying, stayed, newly, turnedTo, outcome, Tells}
 
 -- nothing is held
-pub none-held : (s : Stars) (p : HeldPlan) (g : Register) → s ≡ noStars → p ≡ noPlan → g ≡ noRegister → record { stars = s; plan = p; register = g } ≡ noBoard
+pub none-held : (s : Stars) (z : HeldSizes) (p : HeldPlan) (g : Register) → s ≡ noStars → z ≡ noSizes → p ≡ noPlan → g ≡ noRegister
+    → record { stars = s; sizes = z; plan = p; register = g } ≡ noBoard
 unfolding noBoard
-none-held s p g e f h = rw (e, f, h)
+none-held s z p g e d f h = rw (e, d, f, h)
 
 -- the walls of a held plan, counted from its rectangles
 abbrev Counted : Register → HeldPlan → Type 0
-Counted g p = (w h : ℕ) → g ≡ keptRegister (keptWalls (planFrom w h (p .rooms + 4) (p .rects)))
+Counted g p = g ≡ keptRegister (keptWalls (planFrom (p .width) (p .height) (p .rooms + 4) (p .rects)))
 
 -- one of each makes one board
-same-board : {s s′ : Stars} {p p′ : HeldPlan} {g g′ : Register} → s ≡ s′ → p ≡ p′ → g ≡ g′
-    → _≡_ {A = HeldBoard} (record { stars = s; plan = p; register = g }) (record { stars = s′; plan = p′; register = g′ })
-same-board e f h = rw (e, f, h)
+same-board : {s s′ : Stars} {z z′ : HeldSizes} {p p′ : HeldPlan} {g g′ : Register} → s ≡ s′ → z ≡ z′ → p ≡ p′ → g ≡ g′
+    → _≡_ {A = HeldBoard} (record { stars = s; sizes = z; plan = p; register = g }) (record { stars = s′; sizes = z′; plan = p′; register = g′ })
+same-board e d f h = rw (e, d, f, h)
 
 -- ---- a job planned
 
@@ -71,52 +74,57 @@ refuses : (r : Planned) (x : Answer) (k : ℕ) → x ≡ refused k → (r .answe
 unfolding said kept
 refuses r x k e p = record { says = rw (p .0, e); keeps = rw e (p .1) }
 
-module _ (bs : List ℕ) (r : Read) (t : ReadTells r (firstSix (readJob bs))) where
-  -- tests 1 to 6
+module _ (bs : List ℕ) (r : Read) (t : ReadTells r (sizesPass (firstSix (readJob bs)))) where
+  -- tests 1 to 6 and 17
   pub plan-unread : (q : Planned) (k : ℕ) → r .answer ≡ Failed k → (q .answer ≡ Undrawn k) × (q .board ≡ noBoard) → Plans q (load bs)
   unfolding load drawRead readOutcome readSaid
   plan-unread q k e p =
-      let f : firstSix (readJob bs) ≡ fails k = sym (rw e at (t .says)) in
+      let f : sizesPass (firstSix (readJob bs)) ≡ fails k = sym (rw e at (t .says)) in
       refuses q (load bs) k (ap drawRead f) p
 
   module _ (e : r .answer ≡ Passed) where
     -- the job that was read
-    abbrev j : Job
-    j = jobOf (r .stars)
+    abbrev o : SizedJob
+    o = sizedJob (jobOf (r .stars)) (sizesOf (r .sizes))
 
-    -- tests 1 to 6 come to that job
-    six : firstSix (readJob bs) ≡ reads j
+    -- tests 1 to 6 and 17 come to that job
+    passed : sizesPass (firstSix (readJob bs)) ≡ reads o
     unfolding readOutcome readSaid
-    six = sym (rw e at (t .says))
+    passed = sym (rw e at (t .says))
 
     -- loading the bytes comes to drawing that job
-    loads-drawn : load bs ≡ drawnAny j
+    loads-drawn : load bs ≡ drawnAny o
     unfolding load drawRead
     loads-drawn =
-        let s = six-passed (readJob bs) j six in
-        ap drawRead six ∙ sym (drawn-any j (read-test2 bs j (s .reading)) (passes-of j (s .pass4) (s .pass5) (s .pass6)))
+        let s = six-passed (readJob bs) o (sizes-passed (firstSix (readJob bs)) o passed .0) in
+        ap drawRead passed ∙ sym (drawn-any o (read-test2 bs o (s .reading)) (passes-of (o .stars) (s .pass4) (s .pass5) (s .pass6)))
 
-    -- the stars that were read are that job, held
-    stars-held : r .stars ≡ heldOf j
+    -- the stars that were read are those of that job, held
+    stars-held : r .stars ≡ heldOf (o .stars)
     unfolding readKept
-    stars-held = rw six at (t .keeps)
+    stars-held = rw passed at (t .keeps)
 
-    module _ (d : Drawing) (u : Draws d j (drawnAny j)) where
-      -- tests 7 and 9
+    -- and so are its sizes
+    sizes-held : r .sizes ≡ heldSizes (o .sizes)
+    unfolding readKeptSizes
+    sizes-held = rw passed at (t .sizes)
+
+    module _ (d : Drawing) (u : Draws d o (drawnAny o)) where
+      -- tests 7, 18 and 9
       pub plan-undrawn : (q : Planned) (k : ℕ) → d .answer ≡ Undrawn k → (q .answer ≡ Undrawn k) × (q .board ≡ noBoard) → Plans q (load bs)
       unfolding said
       plan-undrawn q k f p =
-          let g : drawnAny j ≡ refused k = sym (rw f at (u .says)) in
+          let g : drawnAny o ≡ refused k = sym (rw f at (u .says)) in
           refuses q (load bs) k (loads-drawn ∙ g) p
 
       -- past all of them: drawn, and the stars, the plan and its walls are kept
       pub plan-drawn : d .answer ≡ Drawn → (g : Register) → Counted g (d .plan)
-          → Plans (record { answer = Drawn; board = record { stars = r .stars; plan = d .plan; register = g } }) (load bs)
-      unfolding said kept planKept boardFor
+          → Plans (record { answer = Drawn; board = record { stars = r .stars; sizes = r .sizes; plan = d .plan; register = g } }) (load bs)
+      unfolding said kept planKept boardFor heldJob
       plan-drawn f g c =
-          let k : drawnAny j ≡ held j (planIn (d .plan)) = sym (rw f at (u .says)) in
+          let k : drawnAny o ≡ held o (planIn (d .plan)) = sym (rw f at (u .says)) in
           let h : d .plan ≡ heldPlan (planIn (d .plan)) = rw k at (u .keeps) in
-          record { says = sym (loads-drawn ∙ k); keeps = rw (loads-drawn ∙ k) (same-board stars-held h (counted-held (d .plan) g c)) }
+          record { says = sym (loads-drawn ∙ k); keeps = rw (loads-drawn ∙ k) (same-board stars-held sizes-held h (counted-held (d .plan) g c)) }
 
 -- ---- refusals
 
@@ -126,7 +134,7 @@ stays-tells r b k buf o e t = rw e t
 
 -- ---- stars numbered and held
 
-module _ (b : HeldBoard) (s : Stars) (d : Drawing) (x : Answer) (q : Draws d (jobOf s) x) where
+module _ (b : HeldBoard) (s : Stars) (d : Drawing) (x : Answer) (q : Draws d (sizedJob (jobOf s) (sizesOf (b .sizes))) x) where
   -- stars that are refused leave the very board, with the number of the test
   pub drawn-not : (k : ℕ) → d .answer ≡ Undrawn k → Tells (stayed b k) [] (newly b s x)
   unfolding said newly staying replyOf
@@ -136,12 +144,12 @@ module _ (b : HeldBoard) (s : Stars) (d : Drawing) (x : Answer) (q : Draws d (jo
 
   -- stars that have their plan are held with it and its walls, and the answer is done
   pub drawn-so : d .answer ≡ Drawn → (g : Register) → Counted g (d .plan)
-      → Tells (record { board = record { stars = s; plan = d .plan; register = g }; reply = Done }) [] (newly b s x)
+      → Tells (record { board = record { stars = s; sizes = b .sizes; plan = d .plan; register = g }; reply = Done }) [] (newly b s x)
   unfolding said planKept newly replyOf
   drawn-so f g c =
-      let k : x ≡ held (jobOf s) (planIn (d .plan)) = sym (rw f at (q .says)) in
+      let k : x ≡ held (sizedJob (jobOf s) (sizesOf (b .sizes))) (planIn (d .plan)) = sym (rw f at (q .says)) in
       let h : d .plan ≡ heldPlan (planIn (d .plan)) = rw k at (q .keeps) in
-      rw k (record { reply = refl; board = same-board refl h (counted-held (d .plan) g c); buffer = refl })
+      rw k (record { reply = refl; board = same-board refl refl h (counted-held (d .plan) g c); buffer = refl })
 
 -- ---- load
 
@@ -150,8 +158,8 @@ module _ (b : HeldBoard) (bs : List ℕ) (r : Planned) (t : Plans r (load bs)) w
   pub load-held : r .answer ≡ Drawn → Tells (record { board = r .board; reply = Done }) [] (outcome b (loads bs))
   unfolding outcome asRules step after replyOf handed said kept
   load-held d =
-      let h : load bs ≡ held (jobOf (r .board .stars)) (planIn (r .board .plan)) = sym (rw d at (t .says)) in
-      let k : r .board ≡ boardFor (jobOf (r .board .stars)) (planIn (r .board .plan)) = rw h at (t .keeps) in
+      let h : load bs ≡ held (heldJob (r .board)) (planIn (r .board .plan)) = sym (rw d at (t .says)) in
+      let k : r .board ≡ boardFor (heldJob (r .board)) (planIn (r .board .plan)) = rw h at (t .keeps) in
       rw h (record { reply = refl; board = k; buffer = refl })
 
   -- a job that is refused leaves the very board, with the number of the test
@@ -231,8 +239,8 @@ module _ (b : HeldBoard) (n : b .stars .count ≡ 0 → ⊥) where
   plan = planIn (b .plan)
 
   -- a board with stars holds that job and that plan
-  is-holding : boardOf b ≡ holding job plan
-  unfolding boardOf
+  is-holding : boardOf b ≡ holding (sizedJob job (sizesOf (b .sizes))) plan
+  unfolding boardOf heldJob
   is-holding = rw (ne-eqb (b .stars .count) 0 n)
 
   -- a contact of the held stars turned in a copy of their kinds
@@ -261,7 +269,7 @@ module _ (b : HeldBoard) (n : b .stars .count ≡ 0 → ⊥) where
         rw q
 
     -- where the contact turns, what numbering and holding the turned stars tells is what the call tells
-    pub turn-swings : (a c k : ℕ) → r ≡ Swings a c k → (h : Handed) → Tells h [] (newly b next (numberedAny (jobOf next))) → Tells h [] (outcome b (turns u v))
+    pub turn-swings : (a c k : ℕ) → r ≡ Swings a c k → (h : Handed) → Tells h [] (newly b next (numberedAny (sizedJob (jobOf next) (sizesOf (b .sizes))))) → Tells h [] (outcome b (turns u v))
     unfolding outcome turnedTo swingSaid
     turn-swings a c k e h q =
         let f : swingOf job u v ≡ swings a c k = rw e at so in
@@ -343,16 +351,16 @@ writes-tells b c false bs buf x q e f = record { reply = e; board = refl; buffer
 
 module _ (b : HeldBoard) (n : b .stars .count ≡ 0 → ⊥) (buf x : List ℕ) (w : Written) (q : Said) (eq : replyOf q ≡ replied w) where
   -- the held job, by its slices
-  abbrev stars-job : Job
-  stars-job = jobIn (b .stars .count) (b .stars .ends) (b .stars .nbr) (b .stars .kind)
+  abbrev stars-job : SizedJob
+  stars-job = sizedJob (jobIn (b .stars .count) (b .stars .ends) (b .stars .nbr) (b .stars .kind)) (sizesIn (b .sizes .told) (b .sizes .list))
 
   -- what writing the bytes of the held job answers and leaves is what the call tells
-  pub answer-job : (replied w ≡ writing (writeJob stars-job) buf .reply) × (x ≡ writing (writeJob stars-job) buf .buffer)
+  pub answer-job : (replied w ≡ writing (writeSized stars-job) buf .reply) × (x ≡ writing (writeSized stars-job) buf .buffer)
       → Tells (record { board = b; reply = q }) x (outcome b (writesJob buf))
-  unfolding outcome step writing
+  unfolding outcome step writing sizesOf
   answer-job e =
       let f = rw (job-stars (b .stars) (b .stars .count) refl) at e in
-      rw (is-holding b n) (writes-tells b _ _ (writeJob (jobOf (b .stars))) buf x q (eq ∙ f .0) (f .1))
+      rw (is-holding b n) (writes-tells b _ _ (writeSized (sizedJob (jobOf (b .stars)) (sizesOf (b .sizes)))) buf x q (eq ∙ f .0) (f .1))
 
   -- the held plan, by its slices
   abbrev rects-plan : Plan
@@ -424,6 +432,8 @@ module _ (b : HeldBoard) (n : b .stars .count ≡ 0 → ⊥) where
       rw (ne-eqb (b .stars .count) 0 n) (cuts-tells b (treeBytes (cutTree (planIn (b .plan)))) buf x q (eq ∙ f .0) (f .1))
 
 -- held stars numbered or drawn, as the job that they are
-pub stars-drawn : (f : Job → Answer) (s : Stars) (n : ℕ) (r : Drawing) → n ≡ s .count
-    → Draws r (jobIn n (s .ends) (s .nbr) (s .kind)) (f (jobIn n (s .ends) (s .nbr) (s .kind))) → Draws r (jobOf s) (f (jobOf s))
-stars-drawn f s n r e d = rw (job-stars s n e) at d
+pub stars-drawn : (f : SizedJob → Answer) (s : Stars) (z : HeldSizes) (n m : ℕ) (r : Drawing) → n ≡ s .count → m ≡ z .told
+    → Draws r (sizedJob (jobIn n (s .ends) (s .nbr) (s .kind)) (sizesIn m (z .list))) (f (sizedJob (jobIn n (s .ends) (s .nbr) (s .kind)) (sizesIn m (z .list))))
+    → Draws r (sizedJob (jobOf s) (sizesOf z)) (f (sizedJob (jobOf s) (sizesOf z)))
+unfolding sizesOf
+stars-drawn f s z n m r e k d = rw (k, job-stars s n e) at d

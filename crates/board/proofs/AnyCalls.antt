@@ -4,7 +4,7 @@ use mathlib.Core.Path.{_≡_, refl, sym, ap, _∙_}
 use mathlib.Core.List.{List, [], _∷_, _++_}
 use native.Mathlib.Omega.{arith}
 use lib.ListN.{take}
-use Rattle.floor.specs.Jobs.{Job, writeJob}
+use Rattle.floor.specs.Jobs.{SizedJob, writeSized}
 use Rattle.floor.specs.Jobs.Written.{read-write-job}
 use Rattle.floor.specs.Plans.{Plan, Answer, held}
 use Rattle.floor.specs.Floor.{Floor}
@@ -65,8 +65,8 @@ reached-runs b (called {b = a} c r buf h t) =
     (cs ++ (c ∷ []), reached-step a h c r buf t .holds ∙ ap (λ (x : Board). step x c .board) e ∙ sym (run-more empty cs c))
 
 -- DEMAND 3: whenever a reached board holds a plan, that is a floor plan for the job that it holds
-pub reached-floor : (b : HeldBoard) → Reached b → (j : Job) (p : Plan) → boardOf b ≡ holding j p → Floor j p
-reached-floor b h j p e = sound-good j p (board-sound b (reached-stands b h) j p e) .floor
+pub reached-floor : (b : HeldBoard) → Reached b → (o : SizedJob) (p : Plan) → boardOf b ≡ holding o p → Floor (o .stars) p
+reached-floor b h o p e = sound-good o p (board-sound b (reached-stands b h) o p e) .floor
 
 -- DEMAND 1: A REFUSED CALL on a reached board hands back the very board, and every byte of the lent buffer
 pub refused-call : (b : HeldBoard) → Reached b → (c : Call) (r : Handed) (buf : List ℕ) (k : ℕ) → Tells r buf (outcome b c) → r .reply ≡ Refused k
@@ -83,24 +83,24 @@ says-done : (x : Said) → replyOf x ≡ done → x ≡ Done
 says-done x e = sym (saying-back x) ∙ ap saying e
 
 -- the board of what is held is the very board
-the-board : (b : HeldBoard) → Stands b → (j : Job) (p : Plan) → boardOf b ≡ holding j p → boardFor j p ≡ b
-the-board b holds-none j p e = let f : empty ≡ holding j p = sym holds-nothing ∙ e in let z : _≡_ {A = ℕ} 0 1 = cc in absurd (omega arith)
-the-board b (holds-both i q s) j p e =
-    let f : holding i q ≡ holding j p = sym (board-holds i q s) ∙ e in
-    let x : i ≡ j = cc in
+the-board : (b : HeldBoard) → Stands b → (o : SizedJob) (p : Plan) → boardOf b ≡ holding o p → boardFor o p ≡ b
+the-board b holds-none o p e = let f : empty ≡ holding o p = sym holds-nothing ∙ e in let z : _≡_ {A = ℕ} 0 1 = cc in absurd (omega arith)
+the-board b (holds-both i q s) o p e =
+    let f : holding i q ≡ holding o p = sym (board-holds i q s) ∙ e in
+    let x : i ≡ o = cc in
     let y : q ≡ p = cc in
     rw (x, y)
 
 -- W3: THE REGISTER that a reached board keeps is, whenever it holds a plan, what a fresh count from that plan gives
-pub reached-register : (b : HeldBoard) → Reached b → (j : Job) (p : Plan) → boardOf b ≡ holding j p → registerIn (b .register) ≡ register p
-reached-register b h j p e =
+pub reached-register : (b : HeldBoard) → Reached b → (o : SizedJob) (p : Plan) → boardOf b ≡ holding o p → registerIn (b .register) ≡ register p
+reached-register b h o p e =
     let s = reached-stands b h in
-    ap (λ (a : HeldBoard). registerIn (a .register)) (sym (the-board b s j p e)) ∙ register-is j p (board-sound b s j p e)
+    ap (λ (a : HeldBoard). registerIn (a .register)) (sym (the-board b s o p e)) ∙ register-is o p (board-sound b s o p e)
 
 -- where a call is done and a job and plan are then held, the board of these is handed back
-done-hands : (b : HeldBoard) (j : Job) (p : Plan) (x : Reply) (a : Board) → x ≡ done → a ≡ holding j p → handed b x a ≡ boardFor j p
+done-hands : (b : HeldBoard) (o : SizedJob) (p : Plan) (x : Reply) (a : Board) → x ≡ done → a ≡ holding o p → handed b x a ≡ boardFor o p
 unfolding handed
-done-hands b j p x a e f = rw (e, f)
+done-hands b o p x a e f = rw (e, f)
 
 -- DEMAND 3: AN ACCEPTED TURN MADE AGAIN AT ONCE, its rooms in either order, is accepted and gives back the very board before it
 module _ (b : HeldBoard) (h : Reached b) (u v : ℕ) (r : Handed) (x : List ℕ) (t : Tells r x (outcome b (turns u v))) (d : r .reply ≡ Done) where
@@ -110,7 +110,7 @@ module _ (b : HeldBoard) (h : Reached b) (u v : ℕ) (r : Handed) (x : List ℕ)
   turn-done = sym (reached-step b h (turns u v) r x t .reply) ∙ ap replyOf d
 
   -- where the rules then give the board back for a turn of m and n, that call is done and hands back the very board
-  restored : (m n : ℕ) → ((j : Job) (p : Plan) → boardOf b ≡ holding j p → Restored (holding j p) (step (step (holding j p) (turns u v) .board) (turns m n)))
+  restored : (m n : ℕ) → ((o : SizedJob) (p : Plan) → boardOf b ≡ holding o p → Restored (holding o p) (step (step (holding o p) (turns u v) .board) (turns m n)))
       → (s : Handed) (y : List ℕ) → Tells s y (outcome (r .board) (turns m n)) → (s .reply ≡ Done) × (s .board ≡ b)
   restored m n back s y q = go (boardOf b) refl
     where
@@ -122,32 +122,32 @@ module _ (b : HeldBoard) (h : Reached b) (u v : ℕ) (r : Handed) (x : List ℕ)
 
       go : (c : Board) → boardOf b ≡ c → (s .reply ≡ Done) × (s .board ≡ b)
       go empty e = no-turn (ap (λ (c : Board). step c (turns u v) .reply) (sym e) ∙ turn-done)
-      go (holding j p) e =
-          let k : boardOf (r .board) ≡ step (holding j p) (turns u v) .board
+      go (holding o p) e =
+          let k : boardOf (r .board) ≡ step (holding o p) (turns u v) .board
           = reached-step b h (turns u v) r x t .holds ∙ ap (λ (c : Board). step c (turns u v) .board) e in
-          let f : step (boardOf (r .board)) (turns m n) ≡ step (step (holding j p) (turns u v) .board) (turns m n) = ap (λ (c : Board). step c (turns m n)) k in
-          let w = back j p e in
+          let f : step (boardOf (r .board)) (turns m n) ≡ step (step (holding o p) (turns u v) .board) (turns m n) = ap (λ (c : Board). step c (turns m n)) k in
+          let w = back o p e in
           let accepted : step (boardOf (r .board)) (turns m n) .reply ≡ done = ap (λ (z : Step). z .reply) f ∙ w .accepted in
-          let same : step (boardOf (r .board)) (turns m n) .board ≡ holding j p = ap (λ (z : Step). z .board) f ∙ w .same-board in
-          (says-done (s .reply) (a .reply ∙ accepted), a .board ∙ done-hands (r .board) j p _ _ accepted same ∙ the-board b (reached-stands b h) j p e)
+          let same : step (boardOf (r .board)) (turns m n) .board ≡ holding o p = ap (λ (z : Step). z .board) f ∙ w .same-board in
+          (says-done (s .reply) (a .reply ∙ accepted), a .board ∙ done-hands (r .board) o p _ _ accepted same ∙ the-board b (reached-stands b h) o p e)
 
   -- the rules say so of the job and plan that are held
-  done-of : (j : Job) (p : Plan) → boardOf b ≡ holding j p → step (holding j p) (turns u v) .reply ≡ done
-  done-of j p e = ap (λ (c : Board). step c (turns u v) .reply) (sym e) ∙ turn-done
+  done-of : (o : SizedJob) (p : Plan) → boardOf b ≡ holding o p → step (holding o p) (turns u v) .reply ≡ done
+  done-of o p e = ap (λ (c : Board). step c (turns u v) .reply) (sym e) ∙ turn-done
 
   -- made again with the rooms in the same order
   pub turned-again : (s : Handed) (y : List ℕ) → Tells s y (outcome (r .board) (turns u v)) → (s .reply ≡ Done) × (s .board ≡ b)
-  turned-again = restored u v (λ j p e. turn-turn j p u v (board-sound b (reached-stands b h) j p e) (done-of j p e) .0)
+  turned-again = restored u v (λ o p e. turn-turn o p u v (board-sound b (reached-stands b h) o p e) (done-of o p e) .0)
 
   -- made again with the rooms in the other order
   pub turned-back : (s : Handed) (y : List ℕ) → Tells s y (outcome (r .board) (turns v u)) → (s .reply ≡ Done) × (s .board ≡ b)
-  turned-back = restored v u (λ j p e. turn-turn j p u v (board-sound b (reached-stands b h) j p e) (done-of j p e) .1)
+  turned-back = restored v u (λ o p e. turn-turn o p u v (board-sound b (reached-stands b h) o p e) (done-of o p e) .1)
 
 -- a sound job, written and loaded into any board, is held again with its plan
-loads-so : (a : Board) (j : Job) (p : Plan) → Sound j p → (step a (loads (writeJob j)) .reply ≡ done) × (step a (loads (writeJob j)) .board ≡ holding j p)
+loads-so : (a : Board) (o : SizedJob) (p : Plan) → Sound o p → (step a (loads (writeSized o)) .reply ≡ done) × (step a (loads (writeSized o)) .board ≡ holding o p)
 unfolding step after
-loads-so a j p s =
-    let e : load (writeJob j) ≡ held j p = load-reads (writeJob j) j p (read-write-job j (s .pass2)) s in
+loads-so a o p s =
+    let e : load (writeSized o) ≡ held o p = load-reads (writeSized o) o p (read-write-job o (s .pass2) (s .counts)) s in
     (ap (λ (x : Answer). after a x .reply) e, ap (λ (x : Answer). after a x .board) e)
 
 -- a load, on any board, is as the rules say
@@ -172,13 +172,13 @@ written-loaded b h buf r x n t d c s y q = go (boardOf b) refl
 
     go : (k : Board) → boardOf b ≡ k → (s .reply ≡ Done) × (s .board ≡ b)
     go empty e = no-write (ap (λ (k : Board). step k (writesJob buf) .reply) (sym e) ∙ wrote-so)
-    go (holding j p) e =
-        let w = wrote-job j p buf n (ap (λ (k : Board). step k (writesJob buf) .reply) (sym e) ∙ wrote-so) in
-        let f : take n x ≡ writeJob j = ap (take n) (a .buffer ∙ ap (λ (k : Board). step k (writesJob buf) .buffer) e) ∙ w .front in
-        let (accepted, same) = loads-so (boardOf c) j p (board-sound b (reached-stands b h) j p e) in
-        let k : step (boardOf c) (loads (take n x)) ≡ step (boardOf c) (loads (writeJob j)) = ap (λ (bs : List ℕ). step (boardOf c) (loads bs)) f in
+    go (holding o p) e =
+        let w = wrote-job o p buf n (ap (λ (k : Board). step k (writesJob buf) .reply) (sym e) ∙ wrote-so) in
+        let f : take n x ≡ writeSized o = ap (take n) (a .buffer ∙ ap (λ (k : Board). step k (writesJob buf) .buffer) e) ∙ w .front in
+        let (accepted, same) = loads-so (boardOf c) o p (board-sound b (reached-stands b h) o p e) in
+        let k : step (boardOf c) (loads (take n x)) ≡ step (boardOf c) (loads (writeSized o)) = ap (λ (bs : List ℕ). step (boardOf c) (loads bs)) f in
         let (l, m) = load-reply c (take n x) s y q in (
           says-done (s .reply) (l ∙ ap (λ (z : Step). z .reply) k ∙ accepted),
-          m ∙ done-hands c j p _ _ (ap (λ (z : Step). z .reply) k ∙ accepted) (ap (λ (z : Step). z .board) k ∙ same)
-              ∙ the-board b (reached-stands b h) j p e,
+          m ∙ done-hands c o p _ _ (ap (λ (z : Step). z .reply) k ∙ accepted) (ap (λ (z : Step). z .board) k ∙ same)
+              ∙ the-board b (reached-stands b h) o p e,
         )

@@ -2,13 +2,12 @@
 use Prim.Native.Nat.{ℕ, _≤_}
 use mathlib.Core.Path.{_≡_, refl, sym, ap, _∙_}
 use mathlib.Core.List.{List}
-use Rattle.floor.specs.Jobs.{Job}
+use Rattle.floor.specs.Jobs.{SizedJob}
 use Rattle.floor.specs.Plans.{Plan, Answer, held, clear, wall}
 use Rattle.floor.specs.Plans.Held.{not-held, one-number}
 use Rattle.floor.specs.Registers.{register}
 use Rattle.floor.specs.Calls.{load, Reply, refusal, done, spans, touch, says, wrote}
 use Rattle.floor.specs.Calls.Sound.{load-held}
-use Rattle.stars.specs.Held.{jobOf}
 use Rattle.drawing.specs.Rects.{rectIn, touchIn, planIn}
 use Rattle.drawing.specs.declared.Touch.the-variants.{Clear, Wall}
 use Rattle.drawing.specs.declared.Answer.{Answer as Judged}
@@ -21,7 +20,7 @@ use Rattle.board.specs.declared.Planned.{Planned}
 use Rattle.board.specs.declared.Reply.{Reply as Said}
 use Rattle.board.specs.declared.Reply.the-variants.{Refused, Done, Spans, Touched, Says, Wrote}
 use Rattle.board.specs.declared.Step.{Step as Handed}
-use Rattle.board.specs.Boards.{boardFor, kept, Plans, replyOf, Outcome, Tells}
+use Rattle.board.specs.Boards.{boardFor, heldJob, kept, Plans, replyOf, Outcome, Tells}
 use Rattle.board.proofs.Standing.{register-is}
 
 -- ---- one answer
@@ -62,7 +61,7 @@ same-planned : (a c : Judged) (b d : HeldBoard) → a ≡ c → b ≡ d → _≡
 same-planned a c b d e f = rw (e, f)
 
 -- two answers that say the same of a job and a plan are equal
-same-judged : (a c : Judged) (j : Job) (p : Plan) (x : Answer) → said a j p ≡ x → said c j p ≡ x → a ≡ c
+same-judged : (a c : Judged) (j : SizedJob) (p : Plan) (x : Answer) → said a j p ≡ x → said c j p ≡ x → a ≡ c
 unfolding said
 same-judged Drawn Drawn j p x e f = refl
 same-judged Drawn (Undrawn k) j p x e f = not-held (f ∙ sym e)
@@ -73,20 +72,20 @@ same-judged (Undrawn k) (Undrawn l) j p x e f = let n : k ≡ l = one-number (e 
 pub one-planned : (x : Answer) (r t : Planned) → Plans r x → Plans t x → r ≡ t
 one-planned x r t p q =
     let e : r .board ≡ t .board = p .keeps ∙ sym (q .keeps) in
-    let f : said (r .answer) (jobOf (t .board .stars)) (planIn (t .board .plan)) ≡ x
-    = ap (λ (c : HeldBoard). said (r .answer) (jobOf (c .stars)) (planIn (c .plan))) (sym e) ∙ p .says in
+    let f : said (r .answer) (heldJob (t .board)) (planIn (t .board .plan)) ≡ x
+    = ap (λ (c : HeldBoard). said (r .answer) (heldJob c) (planIn (c .plan))) (sym e) ∙ p .says in
     same-planned (r .answer) (t .answer) (r .board) (t .board) (same-judged (r .answer) (t .answer) _ _ x f (q .says)) e
 
 -- ---- the walls of a job planned
 
 module _ (bs : List ℕ) (r : Planned) (t : Plans r (load bs)) (d : r .answer ≡ Drawn) where
   -- loading it comes to the job and plan that its board holds
-  loads-so : load bs ≡ held (jobOf (r .board .stars)) (planIn (r .board .plan))
+  loads-so : load bs ≡ held (heldJob (r .board)) (planIn (r .board .plan))
   unfolding said
   loads-so = sym (rw d at (t .says))
 
   -- the board is as a load of these leaves it
-  board-so : r .board ≡ boardFor (jobOf (r .board .stars)) (planIn (r .board .plan))
+  board-so : r .board ≡ boardFor (heldJob (r .board)) (planIn (r .board .plan))
   unfolding kept
   board-so = rw loads-so at (t .keeps)
 

@@ -2,6 +2,7 @@
 use Prim.Native.Nat.{ℕ, _≤_}
 use mathlib.Core.Path.{_≡_, refl, sym, ap, _∙_}
 use mathlib.Core.Bool.{Bool, true, false}
+use mathlib.Core.Logic.{inl, inr}
 use mathlib.Core.Option.{Option, none, some}
 use mathlib.Core.List.{List, []}
 use native.Mathlib.Omega.{arith}
@@ -9,10 +10,11 @@ use borrow.Author.Tests.{ne-eqb, leb-true}
 use lib.Dec.{leb}
 use lib.ListN.{length}
 use Rattle.floor.specs.Lists.Laws.{and-parts}
-use Rattle.floor.specs.Jobs.{Job, pairsIn, test2, test3, reads, writeJob}
+use Rattle.floor.specs.Jobs.{Job, SizedJob, sizedJob, pairsIn, test2, test3, Reading, reads, withSizes, writeSized}
+use Rattle.floor.specs.Jobs.Written.{Counts}
 use Rattle.floor.specs.Jobs.Facts.{Passes, labelling-passes, of-passes}
 use Rattle.floor.specs.Walls.{at}
-use Rattle.floor.specs.Plans.{Plan, planOf, Answer, refused, held, drawRead, writePlan}
+use Rattle.floor.specs.Plans.{Plan, planOf, Answer, refused, held, past, test18, drawRead, writePlan}
 use Rattle.floor.specs.Floor.Elsewhere.{Ours}
 use Rattle.floor.specs.Turns.{turning, turn, Kept}
 use Rattle.floor.specs.Turns.Restore.{turnable, turned-keeps}
@@ -26,8 +28,10 @@ use Rattle.floor.specs.Calls.Bytes.{plan-bytes}
 use Rattle.floor.specs.Calls.Sliced.{cuts-bytes}
 use Rattle.fields.specs.Writes.{writing}
 use Rattle.stars.specs.Held.{jobOf, noStars, heldOf}
+use Rattle.stars.specs.Sized.{sizesOf, heldSizes}
 use Rattle.stars.proofs.Holding.{length-stars}
 use Rattle.stars.proofs.Back.{job-back}
+use Rattle.stars.proofs.Sized.{sizes-back}
 use Rattle.drawing.specs.Rects.{planIn, heldPlan, inBytes}
 use Rattle.drawing.specs.Drawn.{numberedAny}
 use Rattle.drawing.proofs.Corollaries.{numbered-any, bytes-kept, plan-back as drawn-back}
@@ -40,12 +44,12 @@ use Rattle.turns.specs.InPlace.{Swing, stops, swings, swingOf, twoTurned, turne
 use Rattle.turns.proofs.Placing.{turning-swings}
 use Rattle.turns.proofs.TurnedStars.{held-turned}
 use Rattle.board.specs.declared.Board.{Board as HeldBoard}
-use Rattle.board.specs.Boards.{boardFor, noBoard, boardOf, handed, asRules, staying, newly, turnedTo, outcome}
+use Rattle.board.specs.Boards.{boardFor, noBoard, heldJob, boardOf, handed, asRules, staying, newly, turnedTo, outcome}
 
 -- A BOARD STANDS: nothing is held, or a job and its plan as a load leaves them
 pub data Stands : HeldBoard → Type 0 where
   holds-none : Stands noBoard
-  holds-both : (j : Job) (p : Plan) → Sound j p → Stands (boardFor j p)
+  holds-both : (o : SizedJob) (p : Plan) → Sound o p → Stands (boardFor o p)
 
 -- ---- what is held is given back
 
@@ -54,58 +58,67 @@ few-of : (j : Job) → test2 (length j) ≡ true → test3 j ≡ true → (lengt
 unfolding test2 test3
 few-of j t2 t3 = (leb-true (length j) 60 (and-parts (leb 1 (length j)) _ t2 .1), leb-true (pairsIn j) 360 t3)
 
-module _ (j : Job) (p : Plan) (s : Sound j p) where
+module _ (o : SizedJob) (p : Plan) (s : Sound o p) where
   -- a sound job has at most 60 rooms and at most 360 pairs
-  few : (length j ≤ 60) × (pairsIn j ≤ 360)
-  few = few-of j (s .pass2) (s .pass3)
+  few : (length (o .stars) ≤ 60) × (pairsIn (o .stars) ≤ 360)
+  few = few-of (o .stars) (s .pass2) (s .pass3)
 
   -- its stars, held, give back the job
-  pub stars-back : jobOf (heldOf j) ≡ j
-  stars-back = job-back j (few .0) (few .1) (of-passes j (s .passes) .0)
+  pub stars-back : jobOf (heldOf (o .stars)) ≡ o .stars
+  stars-back = job-back (o .stars) (few .0) (few .1) (of-passes (o .stars) (s .passes) .0)
+
+  -- its sizes, held, are given back
+  sizes-given : sizesOf (heldSizes (o .sizes)) ≡ o .sizes
+  sizes-given = sizes-back (o .sizes) (most (s .counts))
+    where
+      most : Counts (length (o .stars)) (o .sizes) → length (o .sizes) ≤ 60
+      most (inl e) = rw e (omega arith)
+      most (inr e) = omega (arith, few .0)
 
   -- its plan, held, is given back
   pub plan-back : planIn (heldPlan p) ≡ p
-  plan-back = drawn-back j p (sound-good j p s .floor .complete) (few .0)
+  plan-back = drawn-back (o .stars) p (sound-good o p s .floor .complete) (few .0)
 
   -- at least one star is held
-  some-star : heldOf j .count ≡ 0 → ⊥
+  some-star : heldOf (o .stars) .count ≡ 0 → ⊥
   some-star e =
-      let l : length (jobOf (heldOf j)) ≡ heldOf j .count = unfold jobOf in length-stars (heldOf j .count) 0 (heldOf j .ends) (heldOf j .nbr) (heldOf j .kind) in
-      let k : length (jobOf (heldOf j)) ≡ length j = ap length stars-back in
-      omega (arith, some-room j p s)
+      let h = heldOf (o .stars) in
+      let l : length (jobOf h) ≡ h .count = unfold jobOf in length-stars (h .count) 0 (h .ends) (h .nbr) (h .kind) in
+      let k : length (jobOf h) ≡ length (o .stars) = ap length stars-back in
+      omega (arith, some-room o p s)
 
   -- the board as a load leaves it holds the job and the plan
-  pub board-holds : boardOf (boardFor j p) ≡ holding j p
-  unfolding boardOf boardFor
-  board-holds = rw (ne-eqb (heldOf j .count) 0 some-star, stars-back, plan-back)
+  pub board-holds : boardOf (boardFor o p) ≡ holding o p
+  unfolding boardOf boardFor heldJob
+  board-holds = rw (ne-eqb (heldOf (o .stars) .count) 0 some-star, stars-back, sizes-given, plan-back)
 
   -- on the board
-  some-held : boardFor j p .stars .count ≡ 0 → ⊥
+  some-held : boardFor o p .stars .count ≡ 0 → ⊥
   unfolding boardFor
   some-held = some-star
 
   -- its stars give back the job
-  job-is : jobOf (boardFor j p .stars) ≡ j
+  job-is : jobOf (boardFor o p .stars) ≡ o .stars
   unfolding boardFor
   job-is = stars-back
 
   -- its rectangles give back the plan
-  plan-is : planIn (boardFor j p .plan) ≡ p
+  plan-is : planIn (boardFor o p .plan) ≡ p
   unfolding boardFor
   plan-is = plan-back
 
   -- its register is kept of the plan's walls, counted afresh
-  walls-are : boardFor j p .register ≡ keptRegister (register p)
+  walls-are : boardFor o p .register ≡ keptRegister (register p)
   unfolding boardFor
-  walls-are = ap (λ (ws : List Partition). keptRegister ws) (kept-right j p s)
+  walls-are = ap (λ (ws : List Partition). keptRegister ws) (kept-right o p s)
 
   -- and gives them back
-  pub register-is : registerIn (boardFor j p .register) ≡ register p
-  register-is = rw walls-are (held-back j p s)
+  pub register-is : registerIn (boardFor o p .register) ≡ register p
+  register-is = rw walls-are (held-back o p s)
 
   -- written, they are the register's bytes
-  walls-written : inBytes (writeRegister (registerIn (boardFor j p .register))) ≡ writeRegister (register p)
-  walls-written = rw walls-are (held-written j p s)
+  walls-written : inBytes (writeRegister (registerIn (boardFor o p .register))) ≡ writeRegister (register p)
+  walls-written = rw walls-are (held-written o p s)
 
 -- the board at first holds nothing
 pub at-first : boardOf noBoard ≡ empty
@@ -119,46 +132,67 @@ stopped : (b : HeldBoard) (a : Board) (k : ℕ) → staying b k ≡ asRules b (a
 unfolding staying asRules after refuse handed
 stopped b a k = refl
 
--- stars that hold a job, held with a plan: as the rules say of it
-held-rules : (b : HeldBoard) (a : Board) (i : Job) (q : Plan) → newly b (heldOf i) (held i q) ≡ asRules b (after a (held i q))
+-- stars that hold a job, held with the sizes of the board and a plan: as the rules say of it
+held-rules : (b : HeldBoard) (a : Board) (i : SizedJob) (q : Plan) → b .sizes ≡ heldSizes (i .sizes)
+    → newly b (heldOf (i .stars)) (held i q) ≡ asRules b (after a (held i q))
 unfolding newly asRules after handed boardFor
-held-rules b a i q = refl
+held-rules b a i q e = rw e
 
-module _ (j : Job) (p : Plan) (s : Sound j p) (u v : ℕ) where
-  -- a turned job is given back by its stars, and its plan by wall numbers is what the rules hold
-  turned-held : (i : Job) → turning j u v ≡ reads i → (jobOf (heldOf i) ≡ i) × (q : Plan) × (numberedAny i ≡ held i q) × (turn j u v ≡ held i q)
+module _ (o : SizedJob) (p : Plan) (s : Sound o p) (u v : ℕ) where
+  -- a turned job is given back by its stars, and numbering it, with test 18, comes to what the rules say of the turn
+  turned-held : (i : Job) → turning (o .stars) u v ≡ reads i
+      → (jobOf (heldOf i) ≡ i) × (q : Plan) × (numberedAny (sizedJob i (o .sizes)) ≡ past (test18 q) 18 (λ _. held (sizedJob i (o .sizes)) q))
+      × (turn o u v ≡ past (test18 q) 18 (λ _. held (sizedJob i (o .sizes)) q))
   unfolding test3
   turned-held i h =
-      let (t, e) = turnable j u v (s .passes) i h in
-      let k : Kept j i = rw e at (turned-keeps j (s .passes) p (sound-good j p s) t) in
+      let (t, e) = turnable (o .stars) u v (s .passes) i h in
+      let k : Kept (o .stars) i = rw e at (turned-keeps (o .stars) (s .passes) p (sound-good o p s) t) in
       let t2 : test2 (length i) ≡ true = rw (k .rooms) (s .pass2) in
       let t3 : test3 i ≡ true = rw (k .pairs) (s .pass3) in
       let (a, c) = few-of i t2 t3 in
       let ok : Passes i = labelling-passes i (k .labelling) in
-      let o : Ours i = reads-numbered j p s u v i h in (
+      let n : Ours i (o .sizes) = reads-numbered o p s u v i h in (
         job-back i a c (of-passes i ok .0),
-        planOf i (at (o .xs)) (at (o .ys)),
-        numbered-any i t2 ok (o .xs) (o .ys) (o .is-upright) (o .is-level),
-        reads-held j p s u v i h (o .xs) (o .ys) (o .is-upright) (o .is-level),
+        planOf i (at (n .xs)) (at (n .ys)),
+        numbered-any (sizedJob i (o .sizes)) t2 ok (n .xs) (n .ys) (n .is-upright) (n .is-level),
+        reads-held o p s u v i h (n .xs) (n .ys) (n .is-upright) (n .is-level),
       )
 
   -- both stars of the contact put where they stand are the turned job, held
-  two-held : (a b t : ℕ) → swingOf j u v ≡ swings a b t → twoPut (boardFor j p .stars) a b t ≡ heldOf (twoTurned j a b t)
+  two-held : (a b t : ℕ) → swingOf (o .stars) u v ≡ swings a b t → twoPut (boardFor o p .stars) a b t ≡ heldOf (twoTurned (o .stars) a b t)
   unfolding boardFor
-  two-held a b t f = held-turned j (few j p s .0) (few j p s .1) (stars-back j p s) (s .passes) u v a b t f
+  two-held a b t f = held-turned (o .stars) (few o p s .0) (few o p s .1) (stars-back o p s) (s .passes) u v a b t f
+
+  -- the board's sizes are those of the job
+  sizes-are : boardFor o p .sizes ≡ heldSizes (o .sizes)
+  unfolding boardFor
+  sizes-are = refl
+
+  -- and give them back
+  sizes-is : sizesOf (boardFor o p .sizes) ≡ o .sizes
+  sizes-is = rw sizes-are (sizes-given o p s)
+
+  -- past test 18 the turned job is held, and else all stays
+  tested-rules : (i : Job) (q : Plan) (t : Bool) → newly (boardFor o p) (heldOf i) (past t 18 (λ _. held (sizedJob i (o .sizes)) q))
+      ≡ asRules (boardFor o p) (after (holding o p) (past t 18 (λ _. held (sizedJob i (o .sizes)) q)))
+  unfolding past
+  tested-rules i q true = held-rules (boardFor o p) (holding o p) (sizedJob i (o .sizes)) q sizes-are
+  tested-rules i q false = unfold newly in stopped (boardFor o p) (holding o p) 18
 
   -- turning the contact where it stands does what the rules say of the turn
-  turn-rules : turnedTo (boardFor j p) (swingOf j u v) ≡ asRules (boardFor j p) (after (holding j p) (turn j u v))
+  turn-rules : turnedTo (boardFor o p) (swingOf (o .stars) u v) ≡ asRules (boardFor o p) (after (holding o p) (turn o u v))
   unfolding turnedTo turnedJob
-  turn-rules = go (swingOf j u v) refl
+  turn-rules = go (swingOf (o .stars) u v) refl
     where
-      go : (x : Swing) → swingOf j u v ≡ x → turnedTo (boardFor j p) x ≡ asRules (boardFor j p) (after (holding j p) (turn j u v))
+      go : (x : Swing) → swingOf (o .stars) u v ≡ x → turnedTo (boardFor o p) x ≡ asRules (boardFor o p) (after (holding o p) (turn o u v))
       go (stops k) f =
-          let e : turn j u v ≡ refused k = unfold turn drawRead in ap drawRead (turning-swings j u v ∙ ap (turnedJob j) f) in
-          rw e (stopped (boardFor j p) (holding j p) k)
+          let e : turn o u v ≡ refused k =
+          unfold turn drawRead withSizes in
+          ap (λ (r : Reading Job). drawRead (withSizes (o .sizes) r)) (turning-swings (o .stars) u v ∙ ap (turnedJob (o .stars)) f) in
+          rw e (stopped (boardFor o p) (holding o p) k)
       go (swings a b t) f =
-          let (back, q, is, so) = turned-held (twoTurned j a b t) (turning-swings j u v ∙ ap (turnedJob j) f) in
-          rw (so, two-held a b t f, back, is) (held-rules (boardFor j p) (holding j p) (twoTurned j a b t) q)
+          let (back, q, is, so) = turned-held (twoTurned (o .stars) a b t) (turning-swings (o .stars) u v ∙ ap (turnedJob (o .stars)) f) in
+          rw (so, two-held a b t f, back, sizes-is, is) (tested-rules (twoTurned (o .stars) a b t) q (test18 q))
 
 -- ---- a plan and its walls written
 
@@ -199,15 +233,15 @@ unfolding asRules asks handed
 asks-same b a c t = refl
 
 -- the tree of a held plan, written, is as the rules say
-cuts-rules : (b : HeldBoard) (j : Job) (p : Plan) → Sound j p → (buf : List ℕ)
-    → asRules b (writingCuts (treeBytes (planTree p)) buf) ≡ asRules b (writesTree (holding j p) (planTree p) buf)
-cuts-rules b j p s buf = go (planTree p) refl
+cuts-rules : (b : HeldBoard) (o : SizedJob) (p : Plan) → Sound o p → (buf : List ℕ)
+    → asRules b (writingCuts (treeBytes (planTree p)) buf) ≡ asRules b (writesTree (holding o p) (planTree p) buf)
+cuts-rules b o p s buf = go (planTree p) refl
   where
-    go : (o : Option Tree) → planTree p ≡ o → asRules b (writingCuts (treeBytes o) buf) ≡ asRules b (writesTree (holding j p) o buf)
+    go : (x : Option Tree) → planTree p ≡ x → asRules b (writingCuts (treeBytes x) buf) ≡ asRules b (writesTree (holding o p) x buf)
     go none e = unfold writingCuts treeBytes writesTree asRules refuse handed in refl
     go (some t) e =
         unfold writingCuts treeBytes writesTree writing in
-        rw (bytes-kept (writeTree t) (cuts-bytes j p s t e)) (writes-same b empty (holding j p) (leb (length (writeTree t)) (length buf)) (writeTree t) buf)
+        rw (bytes-kept (writeTree t) (cuts-bytes o p s t e)) (writes-same b empty (holding o p) (leb (length (writeTree t)) (length buf)) (writeTree t) buf)
 
 -- WHERE A BOARD STANDS, THE OUTCOME OF ANY CALL IS THAT OF THE RULES
 pub by-rules : (b : HeldBoard) → Stands b → (c : Call) → outcome b c ≡ asRules b (step (boardOf b) c)
@@ -221,19 +255,19 @@ by-rules b holds-none (writesPlan buf) = none-writes buf
 by-rules b holds-none (writesRegister buf) = none-walls buf
 by-rules b holds-none slices = none-slices
 by-rules b holds-none (writesCuts buf) = none-cuts buf
-by-rules b (holds-both j p s) (turns u v) =
-    rw (board-holds j p s, ne-eqb (boardFor j p .stars .count) 0 (some-held j p s), job-is j p s) (turn-rules j p s u v)
-by-rules b (holds-both j p s) (writesPlan buf) =
-    rw (board-holds j p s, ne-eqb (boardFor j p .stars .count) 0 (some-held j p s), plan-is j p s, bytes-kept (writePlan p) (plan-bytes j p s))
-    (writes-same (boardFor j p) empty (holding j p) (leb (length (writePlan p)) (length buf)) (writePlan p) buf)
-by-rules b (holds-both j p s) (writesRegister buf) =
-    rw (board-holds j p s, ne-eqb (boardFor j p .stars .count) 0 (some-held j p s), walls-written j p s)
-    (writes-same (boardFor j p) empty (holding j p) (leb (length (writeRegister (register p))) (length buf)) (writeRegister (register p)) buf)
-by-rules b (holds-both j p s) slices =
-    rw (board-holds j p s, ne-eqb (boardFor j p .stars .count) 0 (some-held j p s), plan-is j p s, held-tree j p s)
-    (asks-same (boardFor j p) empty (holding j p) (isTree (planTree p)))
-by-rules b (holds-both j p s) (writesCuts buf) =
-    rw (board-holds j p s, ne-eqb (boardFor j p .stars .count) 0 (some-held j p s), plan-is j p s, held-tree j p s) (cuts-rules (boardFor j p) j p s buf)
+by-rules b (holds-both o p s) (turns u v) =
+    rw (board-holds o p s, ne-eqb (boardFor o p .stars .count) 0 (some-held o p s), job-is o p s) (turn-rules o p s u v)
+by-rules b (holds-both o p s) (writesPlan buf) =
+    rw (board-holds o p s, ne-eqb (boardFor o p .stars .count) 0 (some-held o p s), plan-is o p s, bytes-kept (writePlan p) (plan-bytes o p s))
+    (writes-same (boardFor o p) empty (holding o p) (leb (length (writePlan p)) (length buf)) (writePlan p) buf)
+by-rules b (holds-both o p s) (writesRegister buf) =
+    rw (board-holds o p s, ne-eqb (boardFor o p .stars .count) 0 (some-held o p s), walls-written o p s)
+    (writes-same (boardFor o p) empty (holding o p) (leb (length (writeRegister (register p))) (length buf)) (writeRegister (register p)) buf)
+by-rules b (holds-both o p s) slices =
+    rw (board-holds o p s, ne-eqb (boardFor o p .stars .count) 0 (some-held o p s), plan-is o p s, held-tree o p s)
+    (asks-same (boardFor o p) empty (holding o p) (isTree (planTree p)))
+by-rules b (holds-both o p s) (writesCuts buf) =
+    rw (board-holds o p s, ne-eqb (boardFor o p .stars .count) 0 (some-held o p s), plan-is o p s, held-tree o p s) (cuts-rules (boardFor o p) o p s buf)
 
 -- ---- what a call leaves
 
@@ -243,10 +277,10 @@ Holds b a = Stands b × (boardOf b ≡ a)
 
 module _ (b : HeldBoard) (a : Board) (h : Holds b a) where
   -- after a load or a turn, sound in what it holds, the board that comes back stands and holds what the rules say
-  left-after : (x : Answer) → ((j : Job) (p : Plan) → x ≡ held j p → Sound j p) → Holds (handed b (after a x .reply) (after a x .board)) (after a x .board)
+  left-after : (x : Answer) → ((o : SizedJob) (p : Plan) → x ≡ held o p → Sound o p) → Holds (handed b (after a x .reply) (after a x .board)) (after a x .board)
   unfolding handed after refuse
   left-after (refused k) f = h
-  left-after (held j p) f = (holds-both j p (f j p refl), board-holds j p (f j p refl))
+  left-after (held o p) f = (holds-both o p (f o p refl), board-holds o p (f o p refl))
 
   -- so does the board that comes back from a question
   left-asks : (t : Bool) (r : Reply) → handed b r a ≡ b → Holds (handed b (asks a t r .reply) (asks a t r .board)) (asks a t r .board)
@@ -267,16 +301,16 @@ module _ (b : HeldBoard) (a : Board) (h : Holds b a) where
   left-tree (some t) buf = left-writes _ (writeTree t) buf
 
 -- what a board that stands holds is sound
-sound-of : (b : HeldBoard) → Stands b → (j : Job) (p : Plan) → boardOf b ≡ holding j p → Sound j p
-sound-of b holds-none j p e = let f : empty ≡ holding j p = sym at-first ∙ e in let z : _≡_ {A = ℕ} 0 1 = cc in absurd (omega arith)
-sound-of b (holds-both i q s) j p e =
-    let f : holding i q ≡ holding j p = sym (board-holds i q s) ∙ e in
-    let x : i ≡ j = cc in
+sound-of : (b : HeldBoard) → Stands b → (o : SizedJob) (p : Plan) → boardOf b ≡ holding o p → Sound o p
+sound-of b holds-none o p e = let f : empty ≡ holding o p = sym at-first ∙ e in let z : _≡_ {A = ℕ} 0 1 = cc in absurd (omega arith)
+sound-of b (holds-both i q s) o p e =
+    let f : holding i q ≡ holding o p = sym (board-holds i q s) ∙ e in
+    let x : i ≡ o = cc in
     let y : q ≡ p = cc in
     rw (← x, ← y) s
 
 -- the job and plan that a board holds are sound, where it stands
-pub board-sound : (b : HeldBoard) → Stands b → (j : Job) (p : Plan) → boardOf b ≡ holding j p → Sound j p
+pub board-sound : (b : HeldBoard) → Stands b → (o : SizedJob) (p : Plan) → boardOf b ≡ holding o p → Sound o p
 board-sound = sound-of
 
 -- the board that any call hands back by the rules, on one that stands, stands and holds what they say
@@ -285,7 +319,7 @@ unfolding step handed refuse
 left-step b a h (loads bs) = loaded a h
   where
     loaded : (a : Board) → Holds b a → Holds (handed b (after a (load bs) .reply) (after a (load bs) .board)) (after a (load bs) .board)
-    loaded a h = left-after b a h (load bs) (λ j p e. load-held bs j p e .1)
+    loaded a h = left-after b a h (load bs) (λ o p e. load-held bs o p e .1)
 left-step b empty h (turns u v) = h
 left-step b empty h (rectangle v) = h
 left-step b empty h (touches u v) = h
@@ -294,10 +328,10 @@ left-step b empty h (writesPlan buf) = h
 left-step b empty h (writesRegister buf) = h
 left-step b empty h slices = h
 left-step b empty h (writesCuts buf) = h
-left-step b (holding i q) h (turns u v) = left-after b (holding i q) h (turn i u v) (λ j p e. turn-held i q u v j p (sound-of b (h .0) i q (h .1)) e)
+left-step b (holding i q) h (turns u v) = left-after b (holding i q) h (turn i u v) (λ o p e. turn-held i q u v o p (sound-of b (h .0) i q (h .1)) e)
 left-step b (holding i q) h (rectangle v) = left-asks b (holding i q) h _ _ refl
 left-step b (holding i q) h (touches u v) = left-asks b (holding i q) h _ _ refl
-left-step b (holding i q) h (writesJob buf) = left-writes b (holding i q) h _ (writeJob i) buf
+left-step b (holding i q) h (writesJob buf) = left-writes b (holding i q) h _ (writeSized i) buf
 left-step b (holding i q) h (writesPlan buf) = left-writes b (holding i q) h _ (writePlan q) buf
 left-step b (holding i q) h (writesRegister buf) = left-writes b (holding i q) h _ (writeRegister (register q)) buf
 left-step b (holding i q) h slices = left-asks b (holding i q) h _ _ refl

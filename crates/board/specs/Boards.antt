@@ -4,7 +4,7 @@ use mathlib.Core.Path.{_≡_}
 use mathlib.Core.Bool.{true, cond}
 use mathlib.Core.List.{List, []}
 use lib.Dec.{eqb}
-use Rattle.floor.specs.Jobs.{Job}
+use Rattle.floor.specs.Jobs.{SizedJob, sizedJob}
 use Rattle.floor.specs.Plans.{Plan, Answer, refused, held, writePlan}
 use Rattle.floor.specs.Registers.{writeRegister}
 use Rattle.floor.specs.Cuts.{isTree}
@@ -13,6 +13,7 @@ use Rattle.floor.specs.Calls.{Reply, refusal, done, spans, touch, says, wrote, 
 use Rattle.fields.specs.Writes.{writing}
 use Rattle.stars.specs.declared.Stars.{Stars}
 use Rattle.stars.specs.Held.{jobOf, noStars, heldOf}
+use Rattle.stars.specs.Sized.{sizesOf, noSizes, heldSizes}
 use Rattle.drawing.specs.Rects.{rectIn, touchIn, planIn, inBytes, noPlan, heldPlan}
 use Rattle.drawing.specs.Drawn.{numberedAny, said}
 use Rattle.registers.specs.Sorting.{keptWalls}
@@ -25,26 +26,30 @@ use Rattle.board.specs.declared.Reply.{Reply as Said}
 use Rattle.board.specs.declared.Reply.the-variants.{Refused, Done, Spans, Touched, Says, Wrote}
 use Rattle.board.specs.declared.Step.{Step as Handed}
 
--- THE BOARD AS A LOAD LEAVES IT: the stars of the job, the rectangles of the plan, and its walls, counted from it
-unfoldable pub boardFor : Job → Plan → HeldBoard
-boardFor j p = record { stars = heldOf j; plan = heldPlan p; register = keptRegister (keptWalls p) }
+-- THE BOARD AS A LOAD LEAVES IT: the stars of the job and its least sizes, the rectangles of the plan, and its walls, counted from it
+unfoldable pub boardFor : SizedJob → Plan → HeldBoard
+boardFor o p = record { stars = heldOf (o .stars); sizes = heldSizes (o .sizes); plan = heldPlan p; register = keptRegister (keptWalls p) }
 
 -- the board at first: nothing is held
 unfoldable pub noBoard : HeldBoard
-noBoard = record { stars = noStars; plan = noPlan; register = noRegister }
+noBoard = record { stars = noStars; sizes = noSizes; plan = noPlan; register = noRegister }
 
--- WHAT A BOARD HOLDS, whatever stands in it: nothing where it has no room, and else the job of its stars, and its plan
+-- the job of a board's stars and least sizes
+unfoldable pub heldJob : HeldBoard → SizedJob
+heldJob b = sizedJob (jobOf (b .stars)) (sizesOf (b .sizes))
+
+-- WHAT A BOARD HOLDS, whatever stands in it: nothing where it has no room, and else the job of its stars and sizes, and its plan
 unfoldable pub boardOf : HeldBoard → Board
-boardOf b = cond (eqb (b .stars .count) 0) empty (holding (jobOf (b .stars)) (planIn (b .plan)))
+boardOf b = cond (eqb (b .stars .count) 0) empty (holding (heldJob b) (planIn (b .plan)))
 
 -- the board that is kept of a job planned: none where it is refused
 unfoldable pub kept : Answer → HeldBoard
 kept (refused k) = noBoard
-kept (held j p) = boardFor j p
+kept (held o p) = boardFor o p
 
 -- a job planned tells what loading it comes to, and keeps the board of it
 pub record Plans (r : Planned) (x : Answer) : Type 0 where
-  pub says : said (r .answer) (jobOf (r .board .stars)) (planIn (r .board .plan)) ≡ x
+  pub says : said (r .answer) (heldJob (r .board)) (planIn (r .board .plan)) ≡ x
   pub keeps : r .board ≡ kept x
 
 -- WHAT A REPLY SAYS: a refusal's number, done, the rectangle, how two touch, yes or no, the length written
@@ -58,7 +63,7 @@ replyOf (Wrote n) = wrote n
 
 -- the board that comes back from a call: a new one where a job and plan are newly held, and else the very board that went in
 unfoldable pub handed : HeldBoard → Reply → Board → HeldBoard
-handed b done (holding j p) = boardFor j p
+handed b done (holding o p) = boardFor o p
 handed b done empty = b
 handed b (refusal k) c = b
 handed b (spans r) c = b
@@ -84,15 +89,16 @@ staying b k = record { board = b; reply = refusal k; buffer = [] }
 abbrev pub stayed : HeldBoard → ℕ → Handed
 stayed b k = record { board = b; reply = Refused k }
 
--- these stars numbered: held with their plan and its walls, counted afresh, or all stays as it was
+-- these stars numbered: held with the sizes as they were, their plan and its walls, counted afresh, or all stays as it was
 unfoldable pub newly : HeldBoard → Stars → Answer → Outcome
 newly b s (refused k) = staying b k
-newly b s (held j p) = record { board = record { stars = s; plan = heldPlan p; register = keptRegister (keptWalls p) }; reply = done; buffer = [] }
+newly b s (held o p) =
+    record { board = record { stars = s; sizes = b .sizes; plan = heldPlan p; register = keptRegister (keptWalls p) }; reply = done; buffer = [] }
 
--- a contact turned where it stands, and the stars numbered afresh: the plan of what calls reach needs no test
+-- a contact turned where it stands, and the stars numbered afresh: the plan of what calls reach needs no test but 18
 unfoldable pub turnedTo : HeldBoard → Swing → Outcome
 turnedTo b (stops k) = staying b k
-turnedTo b (swings u v t) = newly b (twoPut (b .stars) u v t) (numberedAny (jobOf (twoPut (b .stars) u v t)))
+turnedTo b (swings u v t) = newly b (twoPut (b .stars) u v t) (numberedAny (sizedJob (jobOf (twoPut (b .stars) u v t)) (sizesOf (b .sizes))))
 
 -- ONE CALL ON ANY BOARD, whatever stands in it: of what it holds as the rules say; a contact is turned in the very stars, of the plan and of the register one
 -- byte of each number is written, and the cuts are those by the walls of the plan, of at most sixty rooms

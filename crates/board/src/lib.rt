@@ -3,7 +3,9 @@ ghost use mathlib.Core.Path.{_≡_};
 ghost use mathlib.Core.List.{[]};
 ghost use Rattle.floor.specs.Calls.{load, loads, turns, rectangle, touches, writesJob, writesPlan, writesRegister, slices, writesCuts};
 ghost use Rattle.drawing.specs.declared.Answer.the-variants.{Refused};
+ghost use Rattle.floor.specs.Jobs.{sizedJob};
 ghost use Rattle.stars.specs.Held.{jobOf};
+ghost use Rattle.stars.specs.Sized.{sizesOf};
 ghost use Rattle.drawing.specs.Drawn.{numberedAny, drawnAny, Draws};
 ghost use Rattle.board.specs.Boards.{noBoard, Plans, stayed, newly, outcome, Tells};
 use drawing::Drawing;
@@ -11,18 +13,20 @@ use drawing::Plan;
 use drawing::Rect;
 use drawing::Touch;
 use registers::Register;
+use stars::Sizes;
 use stars::Stars;
 
 mod questions; // questions.rt: what the questions and writings ask
 
-// What is held: a job, turns included, as its stars, its plan, and the register of the plan's walls.
+// What is held: a job, turns included, as its stars and its least sizes, its plan, and the register of the plan's walls.
 pub struct Board {
     pub stars: Stars,
+    pub sizes: Sizes,
     pub plan: Plan,
     pub register: Register,
 }
 
-// A job planned: the answer of tests 1 to 7 and 9, and the board of it, none where it is refused.
+// A job planned: the answer of tests 1 to 6, 17, 7, 18 and 9, and the board of it, none where it is refused.
 pub struct Planned {
     pub answer: drawing::Answer,
     pub board: Board,
@@ -49,10 +53,12 @@ pub fn empty() -> Board
     ensures { λ r. ⌜ r ≡ noBoard ⌝ }
 {
     let stars = stars::held::none_held();
+    let sizes = stars::least::none_told();
     let plan = drawing::no_plan();
     let register = registers::no_register();
     Board {
         stars: stars,
+        sizes: sizes,
         plan: plan,
         register: register,
     }
@@ -69,12 +75,20 @@ fn refused(k: u8) -> Planned
     }
 }
 
-// Held stars numbered and drawn: tests 7 and 9.
-fn draw_stars(stars: Stars) -> Drawing
-    ensures { λ r. ⌜ Draws r (jobOf stars) (drawnAny (jobOf stars)) ⌝ }
+// Held stars numbered and drawn with their least sizes: tests 7, 18 and 9.
+fn draw_stars(stars: Stars, sizes: Sizes) -> Drawing
+    ensures { λ r. ⌜ Draws r (sizedJob (jobOf stars) (sizesOf sizes)) (drawnAny (sizedJob (jobOf stars) (sizesOf sizes))) ⌝ }
 {
     let count = fields::wide(stars.count);
-    drawing::draw(&stars.ends, &stars.nbr, &stars.kind, count)
+    let told = fields::wide(sizes.told);
+    drawing::draw(
+        &stars.ends,
+        &stars.nbr,
+        &stars.kind,
+        count,
+        told,
+        &sizes.list,
+    )
 }
 
 // A refusal: the very board comes back.
@@ -87,22 +101,30 @@ fn stays(board: Board, k: u8) -> Step
     }
 }
 
-// Turned stars numbered afresh, and held with their plan and its walls, counted afresh; all stays as it was where test 7 fails.
+// Turned stars numbered afresh with the sizes held, and held with their plan and its walls, counted afresh; all stays as it was where test 7 or 18 fails.
 fn hold_numbered(kept: Board, next: Stars) -> Step
-    ensures { λ r. ⌜ Tells r [] (newly kept next (numberedAny (jobOf next))) ⌝ }
+    ensures { λ r. ⌜ Tells r [] (newly kept next (numberedAny (sizedJob (jobOf next) (sizesOf (kept .sizes))))) ⌝ }
 {
     let count = fields::wide(next.count);
-    let drawing = drawing::plan_stars(&next.ends, &next.nbr, &next.kind, count);
+    let sizes = kept.sizes;
+    let told = fields::wide(sizes.told);
+    let drawing = drawing::plan_stars(&next.ends, &next.nbr, &next.kind, count, told, &sizes.list);
     let fresh = drawing.plan;
     let drawn = drawing.answer;
     match drawn {
         drawing::Answer::Drawn => {
-            let register = registers::register_of(&fresh.rects, fresh.rooms);
+            let counted = registers::register_of(
+                &fresh.rects,
+                fresh.rooms,
+                fresh.width,
+                fresh.height,
+            );
             Step {
                 board: Board {
                     stars: next,
+                    sizes: sizes,
                     plan: fresh,
-                    register: register,
+                    register: counted,
                 },
                 reply: Reply::Done,
             }
@@ -111,25 +133,32 @@ fn hold_numbered(kept: Board, next: Stars) -> Step
     }
 }
 
-// A job's bytes planned: tests 1 to 7 and 9; the walls of its plan are counted.
+// A job's bytes planned: tests 1 to 6, 17, 7, 18 and 9; the walls of its plan are counted.
 pub fn plan_job(job: &[u8]) -> Planned
     ensures { λ r. ⌜ Plans r (load (now (job .entry))) ⌝ }
 {
     let read = jobs::read_job(job);
     let stars = read.stars;
+    let sizes = read.sizes;
     let answer = read.answer;
     match answer {
         jobs::Answer::Passed => {
-            let drawing = draw_stars(stars);
+            let drawing = draw_stars(stars, sizes);
             let plan = drawing.plan;
             let drawn = drawing.answer;
             match drawn {
                 drawing::Answer::Drawn => {
-                    let register = registers::register_of(&plan.rects, plan.rooms);
+                    let register = registers::register_of(
+                        &plan.rects,
+                        plan.rooms,
+                        plan.width,
+                        plan.height,
+                    );
                     Planned {
                         answer: drawing::Answer::Drawn,
                         board: Board {
                             stars: stars,
+                            sizes: sizes,
                             plan: plan,
                             register: register,
                         },
@@ -143,7 +172,7 @@ pub fn plan_job(job: &[u8]) -> Planned
 }
 
 impl Board {
-    // A job loaded: 1 to 7, and 9.
+    // A job loaded: 1 to 6, 17, 7, 18 and 9.
     pub fn load(self, job: &[u8]) -> Step
         ensures { λ r. ⌜ Tells r [] (outcome self (loads (now (job .entry)))) ⌝ }
     {
@@ -160,7 +189,7 @@ impl Board {
         }
     }
 
-    // A contact turned, its two rooms named in either order: 10, 11, 12. On a board that calls reach the turned plan is always drawn: no test is made of it.
+    // A contact turned, its two rooms named in either order: 10, 11, 12, and 18. On a board that calls reach the turned plan is always drawn: no other test is made of it.
     pub fn turn(self, u: usize, v: usize) -> Step
         ensures { λ r. ⌜ Tells r [] (outcome self (turns u v)) ⌝ }
     {
@@ -239,6 +268,8 @@ impl Board {
             &self.stars.nbr,
             &self.stars.kind,
             self.stars.count,
+            self.sizes.told,
+            &self.sizes.list,
             out,
         );
         let reply = questions::written_reply(written);

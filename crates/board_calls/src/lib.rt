@@ -6,6 +6,7 @@ use board::Step;
 use drawing::Plan;
 use drawing::Touch;
 use registers::Register;
+use stars::Sizes;
 use stars::Stars;
 
 // A board in C's layout.
@@ -15,6 +16,8 @@ pub struct Held {
     ends: [u16; 60],
     nbr: [u16; 360],
     kind: [u8; 360],
+    told: u8,
+    sizes: [u8; 120],
     rooms: u8,
     width: u16,
     height: u16,
@@ -36,6 +39,7 @@ fn board_of(held: Held) -> Board {
     let ends = held.ends;
     let nbr = held.nbr;
     let kind = held.kind;
+    let sizes = held.sizes;
     let rects = held.rects;
     let rows = held.rows;
     Board {
@@ -44,6 +48,10 @@ fn board_of(held: Held) -> Board {
             ends: ends,
             nbr: nbr,
             kind: kind,
+        },
+        sizes: Sizes {
+            told: held.told,
+            list: sizes,
         },
         plan: Plan {
             rooms: held.rooms,
@@ -84,11 +92,13 @@ fn tell(step: Step) -> Told {
     let board = step.board;
     let reply = step.reply;
     let stars = board.stars;
+    let sizes = board.sizes;
     let plan = board.plan;
     let register = board.register;
     let ends = stars.ends;
     let nbr = stars.nbr;
     let kind = stars.kind;
+    let list = sizes.list;
     let rects = plan.rects;
     let rows = register.rows;
     let answer = answer_of(reply);
@@ -98,6 +108,8 @@ fn tell(step: Step) -> Told {
             ends: ends,
             nbr: nbr,
             kind: kind,
+            told: sizes.told,
+            sizes: list,
             rooms: plan.rooms,
             width: plan.width,
             height: plan.height,

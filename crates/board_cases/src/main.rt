@@ -150,10 +150,12 @@ fn uncounted(board: Board) -> Board {
 // The stars of the board, and no plan and no walls: a vertex past its rectangles lies nowhere.
 fn unplanned(board: Board) -> Board {
     let stars = board.stars;
+    let sizes = board.sizes;
     let none = drawing::no_plan();
     let register = registers::no_register();
     Board {
         stars: stars,
+        sizes: sizes,
         plan: none,
         register: register,
     }
@@ -162,6 +164,7 @@ fn unplanned(board: Board) -> Board {
 // Room 5 a cell wider, and the sheet and the first wall by 256, of which a byte is written.
 fn wider(board: Board) -> Board {
     let stars = board.stars;
+    let sizes = board.sizes;
     let mut plan = board.plan;
     plan.width = 260;
     plan.rects[22] = 4;
@@ -169,6 +172,7 @@ fn wider(board: Board) -> Board {
     register.rows[2] = 260;
     Board {
         stars: stars,
+        sizes: sizes,
         plan: plan,
         register: register,
     }
@@ -178,10 +182,28 @@ fn wider(board: Board) -> Board {
 fn overrun(board: Board) -> Board {
     let mut stars = board.stars;
     stars.ends[3] = 65535;
+    let sizes = board.sizes;
     let plan = board.plan;
     let register = board.register;
     Board {
         stars: stars,
+        sizes: sizes,
+        plan: plan,
+        register: register,
+    }
+}
+
+// Sizes told of more rooms than there are, the first of them no size at all: a room is then asked for a cell.
+fn sized(board: Board) -> Board {
+    let stars = board.stars;
+    let mut sizes = board.sizes;
+    sizes.told = 255;
+    sizes.list[3] = 2;
+    let plan = board.plan;
+    let register = board.register;
+    Board {
+        stars: stars,
+        sizes: sizes,
         plan: plan,
         register: register,
     }
@@ -207,6 +229,7 @@ fn main() {
     show_board(b"stars and no plan:\n", unplanned(held));
     show_board(b"a cell wider:\n", wider(held));
     show_board(b"a star ends past the arrays:\n", overrun(held));
+    show_board(b"more sizes than rooms:\n", sized(held));
     let many = crowded(held);
     show_board(b"more rooms than stars:\n", many);
     show_vertex(b"  rectangle of 258:", many, 258);

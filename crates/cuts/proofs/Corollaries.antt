@@ -8,7 +8,7 @@ use lib.Dec.{leb}
 use lib.ListN.{length, take}
 use lib.Seq.{take-all}
 use native.Mathlib.Omega.{arith}
-use Rattle.floor.specs.Jobs.{Job}
+use Rattle.floor.specs.Jobs.{SizedJob}
 use Rattle.floor.specs.Plans.{Plan}
 use Rattle.floor.specs.Registers.{Partition, register}
 use Rattle.floor.specs.Calls.{empty, Reply, refusal, holding, says, refuse, asks, writes, writesTree, slices, writesCuts, step}
@@ -53,38 +53,38 @@ pub one-cuts-writing : (p : Plan) (o : List ℕ) (a b : Written) (x y : List ℕ
 one-cuts-writing p o a b x y v w = (same-reply a b (writing (treeBytes (cutTree p)) o .reply) (v .0) (w .0), v .1 ∙ sym (w .1))
 
 -- OF EVERY PLAN THAT IS HELD
-module _ (j : Job) (p : Plan) (s : Sound j p) where
+module _ (o : SizedJob) (p : Plan) (s : Sound o p) where
   -- OF A HELD PLAN THE TREE IS THE PLAN'S TREE by the stated choice
   pub held-tree : cutTree p ≡ planTree p
   unfolding cutTree
   held-tree =
       ap (λ (ws : List Partition). capped 60 (treeBy ws (roomsOf p) (inner p)))
-      (ap (take 64) (kept-right j p s) ∙ take-all 64 (register p) (omega (arith, held-walls j p s, limits j p s .0)))
-      ∙ held-capped j p s 60 (omega (arith, limits j p s .0))
+      (ap (take 64) (kept-right o p s) ∙ take-all 64 (register p) (omega (arith, held-walls o p s, limits o p s .0)))
+      ∙ held-capped o p s 60 (omega (arith, limits o p s .0))
 
   -- so the answer of `sliceable` is the one that the call asks for
-  pub held-slices : says (isTree (cutTree p)) ≡ step (holding j p) slices .reply
+  pub held-slices : says (isTree (cutTree p)) ≡ step (holding o p) slices .reply
   unfolding step asks
-  held-slices = ap (λ (o : Option Tree). says (isTree o)) held-tree
+  held-slices = ap (λ (x : Option Tree). says (isTree x)) held-tree
 
   -- AND WHAT `write_cuts` WRITES IS WHAT THE CALL WRITES
   pub held-writes : (buf : List ℕ)
-      → (writing (treeBytes (cutTree p)) buf .reply ≡ step (holding j p) (writesCuts buf) .reply)
-      × (writing (treeBytes (cutTree p)) buf .buffer ≡ step (holding j p) (writesCuts buf) .buffer)
+      → (writing (treeBytes (cutTree p)) buf .reply ≡ step (holding o p) (writesCuts buf) .reply)
+      × (writing (treeBytes (cutTree p)) buf .buffer ≡ step (holding o p) (writesCuts buf) .buffer)
   unfolding step
   held-writes buf = rw held-tree (go (planTree p) refl)
     where
       same : (bs cs : List ℕ) → bs ≡ cs
-          → (written bs buf .reply ≡ writes (holding j p) (leb (length cs) (length buf)) cs buf .reply)
-          × (written bs buf .buffer ≡ writes (holding j p) (leb (length cs) (length buf)) cs buf .buffer)
+          → (written bs buf .reply ≡ writes (holding o p) (leb (length cs) (length buf)) cs buf .reply)
+          × (written bs buf .buffer ≡ writes (holding o p) (leb (length cs) (length buf)) cs buf .buffer)
       same bs cs e = unfold written in rw e (two (leb (length cs) (length buf)))
         where
-          two : (t : Bool) → (writes empty t cs buf .reply ≡ writes (holding j p) t cs buf .reply) × (writes empty t cs buf .buffer ≡ writes (holding j p) t cs buf .buffer)
+          two : (t : Bool) → (writes empty t cs buf .reply ≡ writes (holding o p) t cs buf .reply) × (writes empty t cs buf .buffer ≡ writes (holding o p) t cs buf .buffer)
           two true = unfold writes in (refl, refl)
           two false = unfold writes refuse in (refl, refl)
 
-      go : (o : Option Tree) → planTree p ≡ o
-          → (writing (treeBytes o) buf .reply ≡ writesTree (holding j p) o buf .reply)
-          × (writing (treeBytes o) buf .buffer ≡ writesTree (holding j p) o buf .buffer)
+      go : (x : Option Tree) → planTree p ≡ x
+          → (writing (treeBytes x) buf .reply ≡ writesTree (holding o p) x buf .reply)
+          × (writing (treeBytes x) buf .buffer ≡ writesTree (holding o p) x buf .buffer)
       go none e = unfold writing treeBytes writesTree refuse in (refl, refl)
-      go (some t) e = unfold writing treeBytes writesTree in same _ _ (bytes-kept (writeTree t) (cuts-bytes j p s t e))
+      go (some t) e = unfold writing treeBytes writesTree in same _ _ (bytes-kept (writeTree t) (cuts-bytes o p s t e))

@@ -41,32 +41,32 @@ plan-run ws l w h n v x y r buf el ex ey s =
     rw (four-less n l) (rw (z, ex, ey) at s)
 
 -- THE REGISTER AS IT IS RUN
-module _ (n : ℕ) (l : List ℕ) (g : Register) (eg : (w h : ℕ) → g ≡ keptRegister (keptWalls (planFrom w h n l))) (u many up : ℕ) (eu : u ≡ g .uprights)
+module _ (w h n : ℕ) (l : List ℕ) (g : Register) (eg : g ≡ keptRegister (keptWalls (planFrom w h n l))) (u many up : ℕ) (eu : u ≡ g .uprights)
     (em : many ≡ g .many) (ep : up ≡ min u many) where
   -- its walls, by its numbers
-  read : (w h : ℕ) → wallsIn u many 0 (g .rows) ≡ take walls (keptWalls (planFrom w h n l))
+  read : wallsIn u many 0 (g .rows) ≡ take walls (keptWalls (planFrom w h n l))
   unfolding registerIn
-  read w h = rw (eu, em) (ap registerIn (eg w h) ∙ kept-read (planFrom w h n l))
+  read = rw (eu, em) (ap registerIn eg ∙ kept-read (planFrom w h n l))
 
   -- it has no more than are kept
   pub few-walls : many ≤ 64
   unfolding keptRegister
-  few-walls = omega (arith, ap (λ (g : Register). g .many) (eg 0 0), front-few 64 (keptWalls (planFrom 0 0 n l)))
+  few-walls = omega (arith, ap (λ (g : Register). g .many) eg, front-few 64 (keptWalls (planFrom w h n l)))
 
   -- the upright rows rise
   pub ups-rising : Rising (g .rows) 0 up
-  ups-rising = rw ep (ups-rise (planFrom 0 0 n l) u many walls (g .rows) (read 0 0))
+  ups-rising = rw ep (ups-rise (planFrom w h n l) u many walls (g .rows) read)
 
   -- and the level ones
   pub levels-rising : Rising (g .rows) up many
-  levels-rising = rw ep (levels-rise (planFrom 0 0 n l) u many walls (g .rows) (read 0 0))
+  levels-rising = rw ep (levels-rise (planFrom w h n l) u many walls (g .rows) read)
 
   -- its tree is the plan's
-  pub register-run : (w h : ℕ) (r : Sliced) (buf : List ℕ)
+  pub register-run : (r : Sliced) (buf : List ℕ)
       → SlicedAs r buf (capped 60 (treeBy (wallsIn up many 0 (g .rows)) (roomsOf (planFrom w h n l)) (inner (planFrom w h n l))))
       → SlicedAs r buf (cutTree (planFrom w h n l))
   unfolding cutTree
-  register-run w h r buf s = rw (ap (λ k. wallsIn k many 0 (g .rows)) ep ∙ rows-least u many 0 many (g .rows) (omega arith) ∙ read w h) at s
+  register-run r buf s = rw (ap (λ k. wallsIn k many 0 (g .rows)) ep ∙ rows-least u many 0 many (g .rows) (omega arith) ∙ read) at s
 
 -- what is answered
 module _ (o : Option Tree) (buf : List ℕ) (r : Sliced) (says : SlicedAs r buf o) where

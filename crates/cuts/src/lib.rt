@@ -123,7 +123,7 @@ fn run_rows<'a>(
 fn run_plan(rects: &[u16], rooms: u8, width: u16, height: u16, buf: &mut [u8; 544]) -> Sliced
     ensures { λ r. ⌜ SlicedAs r (now (buf .exit)) (cutTree (planFrom width height (rooms + 4) (now (rects .entry)))) × (length (now (buf .exit)) ≡ 544) ⌝ }
 {
-    let register = registers::register_of(rects, rooms);
+    let register = registers::register_of(rects, rooms, width, height);
     let many = fields::number(register.many);
     let ups = fewer(fields::number(register.uprights), many);
     run_rows(&register.rows, ups, many, rects, rooms, width, height, buf)

@@ -3,6 +3,7 @@
 use drawing::Plan;
 use place::Sheet;
 use rooms::Layer;
+use stars::Sizes;
 use words::Marked;
 
 mod place; // place.rt: where the lines of a plan stand in the picture
@@ -12,6 +13,7 @@ mod mark; // mark.rt: the fingerprint of a job's bytes
 mod tints; // tints.rt: tints that differ between neighbours
 mod names; // names.rt: what a rectangle is called, and its tint
 mod rooms; // rooms.rt: the rectangles: ground, outline and number
+mod least; // least.rt: least sizes where they bind
 mod stretches; // stretches.rt: marks on stretches of lines
 mod walls; // walls.rt: the marks of the walls, as in the joiner's list
 mod cutting; // cutting.rt: the numbers of the cuts, in their order
@@ -60,45 +62,54 @@ fn put_marks(sheet: Sheet, plan: Plan, marked: Marked, tree: &[u8]) {
     }
 }
 
-// The floor: grounds, the grid over them, walls and numbers over both, the marks on them, then what stands along the sides.
-fn floor(sheet: Sheet, plan: Plan, marked: Marked, tree: &[u8]) {
+// The floor: grounds, the grid over them, walls and numbers over both, least sizes where they bind, the marks on them, then what stands along the sides.
+fn floor(sheet: Sheet, plan: Plan, sizes: Sizes, marked: Marked, tree: &[u8]) {
     let tints = tints::tints_of(plan);
     rooms::paint_all(Layer::Ground, sheet, plan, &tints);
     grid::grid(sheet);
     rooms::paint_all(Layer::Outline, sheet, plan, &tints);
+    least::show_all(sheet, plan, sizes);
     put_marks(sheet, plan, marked, tree);
     sides::sides(sheet);
 }
 
 // The picture: the floor, and words above and below it. The tree of the cuts is empty where walls are marked.
-fn picture<'a>(plan: Plan, marked: Marked, tree: &'a [u8], name: &'a [u8], job: &'a [u8]) {
+fn picture<'a>(
+    plan: Plan,
+    sizes: Sizes,
+    marked: Marked,
+    tree: &'a [u8],
+    name: &'a [u8],
+    job: &'a [u8],
+) {
     let sheet = Sheet {
         width: plan.width,
         height: plan.height,
+        sized: sizes.told != 0,
     };
     head(sheet);
     words::identity(sheet, name, job);
-    floor(sheet, plan, marked, tree);
+    floor(sheet, plan, sizes, marked, tree);
     words::key(sheet, marked);
     pen::word(b"</svg>\n");
 }
 
 // The picture with its cuts, where there are any that take the floor apart: the tree of sixty rooms has 535 bytes.
-fn cut_picture<'a>(plan: Plan, name: &'a [u8], job: &'a [u8]) {
+fn cut_picture<'a>(plan: Plan, sizes: Sizes, name: &'a [u8], job: &'a [u8]) {
     let mut tree = [0u8; 535];
     let written = cuts::write_cuts(&plan.rects, plan.rooms, plan.width, plan.height, &mut tree);
     match written {
-        cuts::Written::Wrote(_) => picture(plan, Marked::Cuts, &tree, name, job),
+        cuts::Written::Wrote(_) => picture(plan, sizes, Marked::Cuts, &tree, name, job),
         cuts::Written::NotSliceable => pen::word(b"refused 15\n"),
         cuts::Written::TooShort => pen::word(b"refused 14\n"),
     }
 }
 
 // The picture as it is asked for.
-fn draw<'a>(marked: Marked, plan: Plan, name: &'a [u8], job: &'a [u8]) {
+fn draw<'a>(marked: Marked, plan: Plan, sizes: Sizes, name: &'a [u8], job: &'a [u8]) {
     match marked {
-        Marked::Walls => picture(plan, Marked::Walls, &job[0..0], name, job),
-        Marked::Cuts => cut_picture(plan, name, job),
+        Marked::Walls => picture(plan, sizes, Marked::Walls, &job[0..0], name, job),
+        Marked::Cuts => cut_picture(plan, sizes, name, job),
     }
 }
 
@@ -119,8 +130,9 @@ fn answer<'a>(marked: Marked, name: &'a [u8], job: &'a [u8]) {
     let board = planned.board;
     let answer = planned.answer;
     let plan = board.plan;
+    let sizes = board.sizes;
     match answer {
-        drawing::Answer::Drawn => draw(marked, plan, name, job),
+        drawing::Answer::Drawn => draw(marked, plan, sizes, name, job),
         drawing::Answer::Refused(_) => say(job),
     }
 }

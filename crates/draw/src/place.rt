@@ -2,10 +2,11 @@
 // fits a page of A4 either way round at its full size, and one of 62 cells a page of A3.
 ghost use Prim.Native.Nat.{_≤_, _<_};
 
-// How many cells a sheet has across, from west to east, and up, from south to north.
+// How many cells a sheet has across, from west to east, and up, from south to north; and whether its rooms have least sizes, of which a line is said below.
 pub struct Sheet {
     pub width: u16,
     pub height: u16,
+    pub sized: bool,
 }
 
 // The two axes of the sheet: x across it, and y up it.
@@ -127,9 +128,13 @@ pub fn picture_width(sheet: Sheet) -> usize
     across(sheet, sheet.width) + side(sheet)
 }
 
-// How high the whole picture is, with five lines of words at the bottom.
+// How high the whole picture is, with five lines of words at the bottom, or six.
 pub fn picture_height(sheet: Sheet) -> usize
     ensures { λ r. ⌜ (144 ≤ r) × (r < 5500000) ⌝ }
 {
-    down(sheet, 0) + 85
+    let five = down(sheet, 0) + 85;
+    if sheet.sized {
+        return five + 12;
+    }
+    five
 }

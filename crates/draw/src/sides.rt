@@ -1,5 +1,5 @@
-// What stands along the sides of the sheet: every line has its number at both its ends. Two digits take three quarters of the smallest cell, so
-// that they always fit.
+// What stands along the sides of the sheet: every line has its number at both its ends. Two digits take three quarters of the smallest cell, and so do
+// three in a smaller size, so that they always fit.
 use crate::pen;
 use crate::place;
 use crate::place::Axis;
@@ -12,9 +12,17 @@ fn weight(at: u16) {
     }
 }
 
+// How large a line's number is.
+fn size(at: u16) -> usize {
+    if 100 <= at {
+        return 8;
+    }
+    12
+}
+
 // A tick from a point on the sheet's side, and a line's number behind it.
 fn number(at: u16, x: usize, y: usize) {
-    pen::open_text(x, y, 12);
+    pen::open_text(x, y, size(at));
     weight(at);
     pen::word(b">");
     pen::number(fields::number(at));

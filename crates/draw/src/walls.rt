@@ -115,9 +115,9 @@ fn listed(rows: &[u16], uprights: usize, i: usize) -> Wall
     wall_at(rows, i, Axis::Across, i - uprights + 1)
 }
 
-// All walls of so many rooms, marked.
+// All walls of so many rooms on a sheet, marked.
 pub fn mark_all(sheet: Sheet, rects: &[u16], rooms: u8) {
-    let register = registers::register_of(rects, rooms);
+    let register = registers::register_of(rects, rooms, sheet.width, sheet.height);
     let rows = register.rows;
     let uprights = fields::number(register.uprights);
     let many = fields::number(register.many);

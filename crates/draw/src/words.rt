@@ -86,10 +86,22 @@ fn smallest(sheet: Sheet) {
     pen::word(b">No sheet with these contacts is smaller.</text>\n");
 }
 
+// What the blue lines inside rooms are, where there are least sizes.
+fn least(sheet: Sheet) {
+    if !sheet.sized {
+        return;
+    }
+    open(sheet, place::down(sheet, 0) + 90, 11);
+    pen::word(
+        b">Blue inside a room: it is just as wide, or as high, as it must be at least.</text>\n",
+    );
+}
+
 // How the picture is read.
 pub fn key(sheet: Sheet, marked: Marked) {
     frame(sheet);
     marks(sheet, marked);
     scale(sheet);
     smallest(sheet);
+    least(sheet);
 }

@@ -11,16 +11,17 @@ use lib.Dec.{leb}
 use lib.ListN.{length, getD}
 use Rattle.floor.specs.Lists.Laws.{and-left}
 use Rattle.floor.specs.Fields.{Bytes}
-use Rattle.floor.specs.Jobs.{Job, test2}
+use Rattle.floor.specs.Jobs.{Job, SizedJob, test2}
 use Rattle.floor.specs.Jobs.Facts.{Passes}
-use Rattle.floor.specs.Walls.{Numbers, upright, level, rules, at, jobNumbers}
-use Rattle.floor.specs.Plans.{Rect, nowhere, Plan, rectOf, Touch, planOf, drawable, Answer, refused, held, drawn, writePlan}
-use Rattle.floor.specs.Plans.Held.{one-number, not-held, drawn-held, drawable-is-floor, held-good, nine}
-use Rattle.floor.specs.Floor.{Complete, Floor}
+use Rattle.floor.specs.Walls.{Axis, Numbers, upright, level, rules, at, jobNumbers}
+use Rattle.floor.specs.Plans.{Rect, nowhere, Plan, rectOf, Touch, planOf, drawable, Answer, refused, held, past, test18, drawn, Over, writePlan}
+use Rattle.floor.specs.Plans.Held.{one-number, not-held, Drawn as Came, drawn-held, drawable-is-floor, held-good, held-roomy, eighteen, nine}
+use Rattle.floor.specs.Floor.{Complete, Floor, Roomy}
 use Rattle.floor.specs.Floor.Touches.{one-side, one-length, not-clear}
 use Rattle.fields.specs.declared.Written.{Written}
 use Rattle.fields.specs.Writes.{replied, writing}
 use Rattle.fields.proofs.Corollaries.{one-answer, one-written}
+use Rattle.walls.specs.Numbers.{numbersIn}
 use Rattle.walls.proofs.Corollaries.{by-definition}
 use Rattle.drawing.specs.declared.Answer.{Answer as Said}
 use Rattle.drawing.specs.declared.Answer.the-variants.{Drawn, Refused}
@@ -30,27 +31,27 @@ use Rattle.drawing.specs.declared.Touch.the-variants.{Clear, Wall}
 use Rattle.drawing.specs.declared.Plan.{Plan as HeldPlan}
 use Rattle.drawing.specs.declared.Drawing.{Drawing}
 use Rattle.drawing.specs.Rects.{rectIn, touchIn, rectsIn, planFrom, planIn, inBytes, heldPlan}
-use Rattle.drawing.specs.Drawn.{byNumbers, numberedAny, drawnAny, said, Draws}
+use Rattle.drawing.specs.Drawn.{fitted, byNumbers, numberedAny, drawnAny, said, Draws}
 use Rattle.drawing.proofs.Asking.{length-rects}
 use Rattle.drawing.proofs.Judging.{held-back}
 
 -- two answers that say the same of a job and a plan are equal
-same-answer : (a b : Said) (j : Job) (p : Plan) (x : Answer) → said a j p ≡ x → said b j p ≡ x → a ≡ b
+same-answer : (a b : Said) (o : SizedJob) (p : Plan) (x : Answer) → said a o p ≡ x → said b o p ≡ x → a ≡ b
 unfolding said
-same-answer Drawn Drawn j p x e f = refl
-same-answer Drawn (Refused k) j p x e f = not-held (f ∙ sym e)
-same-answer (Refused k) Drawn j p x e f = not-held (e ∙ sym f)
-same-answer (Refused k) (Refused l) j p x e f = let n : k ≡ l = one-number (e ∙ sym f) in cc
+same-answer Drawn Drawn o p x e f = refl
+same-answer Drawn (Refused k) o p x e f = not-held (f ∙ sym e)
+same-answer (Refused k) Drawn o p x e f = not-held (e ∙ sym f)
+same-answer (Refused k) (Refused l) o p x e f = let n : k ≡ l = one-number (e ∙ sym f) in cc
 
 -- drawings with the same answer and the same plan are one
 same-fields : (a b : Said) (p q : HeldPlan) → a ≡ b → p ≡ q → _≡_ {A = Drawing} (record { answer = a; plan = p }) (record { answer = b; plan = q })
 same-fields a b p q e f = rw (e, f)
 
 -- THE PROMISES OF `plan_stars` AND `draw` ALLOW ONE ANSWER AND ONE PLAN
-pub one-drawing : (j : Job) (x : Answer) (r t : Drawing) → Draws r j x → Draws t j x → r ≡ t
-one-drawing j x r t d e =
+pub one-drawing : (o : SizedJob) (x : Answer) (r t : Drawing) → Draws r o x → Draws t o x → r ≡ t
+one-drawing o x r t d e =
     let p : r .plan ≡ t .plan = d .keeps ∙ sym (e .keeps) in
-    let a : r .answer ≡ t .answer = same-answer (r .answer) (t .answer) j (planIn (t .plan)) x (rw p at (d .says)) (e .says) in
+    let a : r .answer ≡ t .answer = same-answer (r .answer) (t .answer) o (planIn (t .plan)) x (rw p at (d .says)) (e .says) in
     same-fields (r .answer) (t .answer) (r .plan) (t .plan) a p
 
 -- THE PROMISE OF `write_plan` ALLOWS ONE ANSWER AND ONE BUFFER
@@ -115,44 +116,63 @@ pub plan-back : (j : Job) (p : Plan) → Complete j p → length j ≤ 60 → pl
 plan-back = held-back
 
 -- THE DRAWING TEST, at a plan by wall numbers, holds exactly when the plan is a floor plan
-pub test-is-floor : (j : Job) → Passes j → 0 < length j → (f g : ℕ → ℕ) → Numbers (rules upright j) f → Numbers (rules level j) g
-    → (drawable j (planOf j f g) ≡ true) ↔ Floor j (planOf j f g)
-test-is-floor j ok some-room f g nf ng = drawable-is-floor j ok f g nf ng some-room
+pub test-is-floor : (o : SizedJob) → Passes (o .stars) → 0 < length (o .stars) → (f g : ℕ → ℕ) → Numbers (rules upright (o .stars) (o .sizes)) f
+    → Numbers (rules level (o .stars) (o .sizes)) g → (drawable (o .stars) (planOf (o .stars) f g) ≡ true) ↔ Floor (o .stars) (planOf (o .stars) f g)
+test-is-floor o ok some-room f g nf ng = drawable-is-floor o ok f g nf ng some-room
 
-module _ (j : Job) (rooms : test2 (length j) ≡ true) (ok : Passes j) where
+module _ (o : SizedJob) (rooms : test2 (length (o .stars)) ≡ true) (ok : Passes (o .stars)) where
   -- test 2 wants a room
-  some-room : 0 < length j
+  some-room : 0 < length (o .stars)
   unfolding test2
-  some-room = omega (arith, leb-true 1 (length j) (and-left (leb 1 (length j)) (leb (length j) 60) rooms))
+  some-room = omega (arith, leb-true 1 (length (o .stars)) (and-left (leb 1 (length (o .stars))) (leb (length (o .stars)) 60) rooms))
+
+  -- the numbers of a job past tests 1 to 6 are those of the definition
+  defined : (a : Axis) → numbersIn a (o .stars) (o .sizes) ≡ jobNumbers a (o .stars) (o .sizes)
+  defined a = by-definition (o .stars) (o .sizes) rooms ok a
 
   -- DRAWING ANY STARS IS DRAWING THE JOB, past tests 1 to 6
-  pub drawn-any : drawnAny j ≡ drawn j
+  pub drawn-any : drawnAny o ≡ drawn o
   unfolding drawnAny drawn
-  drawn-any = rw (by-definition j rooms ok upright, by-definition j rooms ok level)
+  drawn-any = rw (defined upright, defined level)
 
-  -- NUMBERING ANY STARS, where the job has its numbers, gives its plan by them
-  pub numbered-any : (f g : List ℕ) → jobNumbers upright j ≡ some f → jobNumbers level j ≡ some g → numberedAny j ≡ held j (planOf j (at f) (at g))
-  unfolding numberedAny byNumbers
-  numbered-any f g ef eg = rw (by-definition j rooms ok upright, by-definition j rooms ok level, ef, eg)
+  -- NUMBERING ANY STARS, where the job has its numbers, gives its plan by them, past test 18
+  pub numbered-any : (f g : List ℕ) → jobNumbers upright (o .stars) (o .sizes) ≡ some f → jobNumbers level (o .stars) (o .sizes) ≡ some g
+      → numberedAny o ≡ past (test18 (planOf (o .stars) (at f) (at g))) 18 (λ _. held o (planOf (o .stars) (at f) (at g)))
+  unfolding numberedAny byNumbers fitted
+  numbered-any f g ef eg = rw (defined upright, defined level, ef, eg)
 
-  module _ (r : Drawing) (d : Draws r j (drawnAny j)) where
+  module _ (r : Drawing) (d : Draws r o (drawnAny o)) where
     -- what is answered is what drawing the job comes to
-    says-drawn : said (r .answer) j (planIn (r .plan)) ≡ drawn j
+    says-drawn : said (r .answer) o (planIn (r .plan)) ≡ drawn o
     says-drawn = d .says ∙ drawn-any
 
-    -- WHAT IS DRAWN IS A FLOOR PLAN
-    pub drawn-floor : r .answer ≡ Drawn → Floor j (planIn (r .plan))
+    -- what is drawn came from the job's numbers, past tests 18 and 9
+    from-numbers : r .answer ≡ Drawn → Came o (planIn (r .plan))
     unfolding said
-    drawn-floor e = held-good j ok some-room (planIn (r .plan)) (drawn-held j j (planIn (r .plan)) (sym says-drawn ∙ rw e) .1) .floor
+    from-numbers e = drawn-held o o (planIn (r .plan)) (sym says-drawn ∙ rw e) .1
+
+    -- WHAT IS DRAWN IS A FLOOR PLAN
+    pub drawn-floor : r .answer ≡ Drawn → Floor (o .stars) (planIn (r .plan))
+    drawn-floor e = held-good o ok some-room (planIn (r .plan)) (from-numbers e) .floor
+
+    -- in which every room has at least its size
+    pub drawn-roomy : r .answer ≡ Drawn → Roomy (o .stars) (o .sizes) (planIn (r .plan))
+    drawn-roomy e = held-roomy o ok some-room (planIn (r .plan)) (from-numbers e)
 
     -- THE ANSWER IS REFUSAL k exactly when drawing the job is
-    pub refused-exactly : (k : ℕ) → (r .answer ≡ Refused k) ↔ (drawn j ≡ refused k)
+    pub refused-exactly : (k : ℕ) → (r .answer ≡ Refused k) ↔ (drawn o ≡ refused k)
     unfolding said
-    refused-exactly k = (λ e. sym says-drawn ∙ rw e, λ e. same-answer (r .answer) (Refused k) j (planIn (r .plan)) (refused k) (says-drawn ∙ e) refl)
+    refused-exactly k = (λ e. sym says-drawn ∙ rw e, λ e. same-answer (r .answer) (Refused k) o (planIn (r .plan)) (refused k) (says-drawn ∙ e) refl)
 
-    -- THE ANSWER IS REFUSAL 9, for a numbered job, exactly when the plan by its wall numbers is no floor plan
-    pub refused-nine : (f g : List ℕ) → jobNumbers upright j ≡ some f → jobNumbers level j ≡ some g
-        → (r .answer ≡ Refused 9) ↔ (Floor j (planOf j (at f) (at g)) → ⊥)
-    refused-nine f g ef eg =
-        let n : (drawn j ≡ refused 9) ↔ (Floor j (planOf j (at f) (at g)) → ⊥) = nine j ok some-room f g ef eg in
-        (λ e. n .0 (refused-exactly 9 .0 e), λ h. refused-exactly 9 .1 (n .1 h))
+    module _ (f g : List ℕ) (ef : jobNumbers upright (o .stars) (o .sizes) ≡ some f) (eg : jobNumbers level (o .stars) (o .sizes) ≡ some g) where
+      -- THE ANSWER IS REFUSAL 18, for a numbered job, exactly when the sheet of the plan by its wall numbers is over the limit
+      pub refused-eighteen : (r .answer ≡ Refused 18) ↔ Over (planOf (o .stars) (at f) (at g))
+      refused-eighteen =
+          let n : (drawn o ≡ refused 18) ↔ Over (planOf (o .stars) (at f) (at g)) = eighteen o f g ef eg in
+          (λ e. n .0 (refused-exactly 18 .0 e), λ h. refused-exactly 18 .1 (n .1 h))
+
+      -- THE ANSWER IS REFUSAL 9, for a numbered job on a sheet within the limit, exactly when the plan by its wall numbers is no floor plan
+      pub refused-nine : test18 (planOf (o .stars) (at f) (at g)) ≡ true → (r .answer ≡ Refused 9) ↔ (Floor (o .stars) (planOf (o .stars) (at f) (at g)) → ⊥)
+      refused-nine t =
+          let n : (drawn o ≡ refused 9) ↔ (Floor (o .stars) (planOf (o .stars) (at f) (at g)) → ⊥) = nine o ok some-room f g ef eg t in
+          (λ e. n .0 (refused-exactly 9 .0 e), λ h. refused-exactly 9 .1 (n .1 h))

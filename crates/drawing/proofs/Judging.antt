@@ -1,20 +1,20 @@
--- Tests 7 and 9 of any held stars, as the code comes by them. Assumes nothing.
+-- Tests 7, 18 and 9 of any held stars, as the code comes by them. Assumes nothing.
 use Prim.Native.Nat.{ℕ, zero, suc, _+_, _*_, _-_, _≤_, _<_}
 use mathlib.Core.Path.{_≡_, refl, sym, ap, _∙_}
 use mathlib.Core.Logic.{_⊎_, inl, inr}
-use mathlib.Core.Bool.{Bool, true, false, not}
+use mathlib.Core.Bool.{Bool, true, false, not, _&&_}
 use mathlib.Core.Option.{Option, none, some}
 use mathlib.Core.List.{List, [], _∷_, _++_, map, append-assoc}
 use native.Mathlib.Omega.{arith}
-use borrow.Author.Tests.{leb-true, not-true, not-false}
+use borrow.Author.Tests.{le-leb, lt-leb, leb-true, not-true, not-false}
 use lib.Dec.{leb}
 use lib.ListN.{length, getD, drop, length-append, length-replicate}
 use lib.Seq.{sets, sets-eq, getD-append-add}
 use Rattle.floor.specs.Lists.{upFrom}
-use Rattle.floor.specs.Lists.Laws.{and-right}
-use Rattle.floor.specs.Jobs.{Job, test2, rooms}
+use Rattle.floor.specs.Lists.Laws.{and-right, and-parts}
+use Rattle.floor.specs.Jobs.{Job, SizedJob, test2, rooms}
 use Rattle.floor.specs.Walls.{upright, level, low, high, at}
-use Rattle.floor.specs.Plans.{Rect, nowhere, Plan, rectOf, roomRect, planOf, drawable, Answer, refused, held, tested, planned}
+use Rattle.floor.specs.Plans.{Rect, nowhere, Plan, rectOf, roomRect, planOf, drawable, Answer, refused, held, past, test18, tested, planned}
 use Rattle.floor.specs.Plans.Held.{past-true, past-false}
 use Rattle.floor.specs.Floor.{Complete}
 use Rattle.floor.specs.Floor.Ours.{plan-complete}
@@ -25,12 +25,12 @@ use Rattle.walls.specs.declared.Walls.{Walls}
 use Rattle.walls.specs.declared.Sides.{Sides}
 use Rattle.walls.specs.declared.Sheet.{Sheet}
 use Rattle.walls.specs.Numbers.{numbersIn, wallsOf, sheetOf}
-use Rattle.walls.proofs.Corollaries.{Reads, Counted, counted, circled, sheet-bound}
+use Rattle.walls.proofs.Corollaries.{Reads, Counted, counted, circled}
 use Rattle.drawing.specs.declared.Answer.the-variants.{Drawn, Refused}
 use Rattle.drawing.specs.declared.Plan.{Plan as HeldPlan}
 use Rattle.drawing.specs.declared.Drawing.{Drawing}
 use Rattle.drawing.specs.Rects.{rectAt, rectsIn, planFrom, planIn, flat, noughts, noPlan, heldPlan}
-use Rattle.drawing.specs.Drawn.{byNumbers, numberedAny, drawnAny, walledBy, walled, frame, planBy, planOn, said, kept, Draws}
+use Rattle.drawing.specs.Drawn.{fitted, byNumbers, numberedAny, drawnAny, walledBy, walled, frame, planBy, planOn, said, kept, Draws}
 
 -- ---- what is held of a plan gives it back
 
@@ -124,127 +124,175 @@ module _ (j : Job) (w : Walls) (f g : ℕ → ℕ) (r : Reads w (length j + 4) f
       let e₂ : getD (w .levels .0) (low 0) 0 + 1 ≡ g (low 0) + 1 = ap (λ (s : Sheet). s .height) (r .sheet) in
       rw (e₁, e₂, map-same (walled w) (roomRect f g) 4 (length j) room-same)
 
+-- ---- test 18, as it is asked of a sheet
+
+-- a sheet that is too wide does not fit
+pub sheet-wide : (s : Sheet) → 250 < s .width → false ≡ (leb (s .width) 250 && leb (s .height) 250)
+sheet-wide s h = rw (lt-leb (s .width) 250 h)
+
+-- one that is not too wide fits exactly if it is not too high
+pub sheet-high : (s : Sheet) → s .width ≤ 250 → leb (s .height) 250 ≡ (leb (s .width) 250 && leb (s .height) 250)
+sheet-high s h = rw (le-leb (s .width) 250 h)
+
 -- ---- the answers
 
 -- a drawing that says refusal k and keeps no plan tells of an answer that is refusal k
-refuses : (r : Drawing) (j : Job) (x : Answer) (k : ℕ) → x ≡ refused k → (r .answer ≡ Refused k) × (r .plan ≡ noPlan) → Draws r j x
+refuses : (r : Drawing) (o : SizedJob) (x : Answer) (k : ℕ) → x ≡ refused k → (r .answer ≡ Refused k) × (r .plan ≡ noPlan) → Draws r o x
 unfolding said kept
-refuses r j x k e p = record { says = rw (p .0, e); keeps = rw e (p .1) }
+refuses r o x k e p = record { says = rw (p .0, e); keeps = rw e (p .1) }
 
 -- numbers that are there are not missing
 not-some : {f : List ℕ} → some f ≡ none → ⊥
 not-some e = let z : _≡_ {A = ℕ} 0 1 = cc in omega arith
 
 -- 7 where a direction has no numbers
-none-seven : (j : Job) (a b : Option (List ℕ)) → (a ≡ none) ⊎ (b ≡ none) → byNumbers j a b ≡ refused 7
+none-seven : (o : SizedJob) (a b : Option (List ℕ)) → (a ≡ none) ⊎ (b ≡ none) → byNumbers o a b ≡ refused 7
 unfolding byNumbers
-none-seven j none none h = refl
-none-seven j none (some g) h = refl
-none-seven j (some f) none h = refl
-none-seven j (some f) (some g) (inl e) = absurd (not-some e)
-none-seven j (some f) (some g) (inr e) = absurd (not-some e)
+none-seven o none none h = refl
+none-seven o none (some g) h = refl
+none-seven o (some f) none h = refl
+none-seven o (some f) (some g) (inl e) = absurd (not-some e)
+none-seven o (some f) (some g) (inr e) = absurd (not-some e)
 
-module _ (j : Job) (w : Walls) (ew : w ≡ wallsOf j) where
+module _ (o : SizedJob) (w : Walls) (ew : w ≡ wallsOf (o .stars) (o .sizes)) where
   -- 7: the walls run in a circle
-  pub seven-numbered : (r : Drawing) → w .answer ≡ Circle → (r .answer ≡ Refused 7) × (r .plan ≡ noPlan) → Draws r j (numberedAny j)
+  pub seven-numbered : (r : Drawing) → w .answer ≡ Circle → (r .answer ≡ Refused 7) × (r .plan ≡ noPlan) → Draws r o (numberedAny o)
   unfolding numberedAny
   seven-numbered r c p =
-      refuses r j (numberedAny j) 7 (none-seven j (numbersIn upright j) (numbersIn level j) (circled j (ap (λ (x : Walls). x .answer) (sym ew) ∙ c))) p
+      refuses r o (numberedAny o) 7 (none-seven o (numbersIn upright (o .stars) (o .sizes)) (numbersIn level (o .stars) (o .sizes))
+      (circled (o .stars) (o .sizes) (ap (λ (x : Walls). x .answer) (sym ew) ∙ c))) p
 
   module _ (num : w .answer ≡ Numbered) where
     -- the walls are numbered: both directions have numbers, and the walls hold them
-    c : Counted j (wallsOf j)
-    c = counted j (ap (λ (x : Walls). x .answer) (sym ew) ∙ num)
+    c : Counted (o .stars) (o .sizes) (wallsOf (o .stars) (o .sizes))
+    c = counted (o .stars) (o .sizes) (ap (λ (x : Walls). x .answer) (sym ew) ∙ num)
 
     -- the plan by wall numbers
     abbrev p : Plan
-    p = planOf j (at (c .xs)) (at (c .ys))
+    p = planOf (o .stars) (at (c .xs)) (at (c .ys))
+
+    -- numbering comes to test 18 of that plan
+    numbered-fitted : numberedAny o ≡ fitted o p
+    unfolding numberedAny byNumbers
+    numbered-fitted = rw (c .is-upright, c .is-level)
 
     -- the job has at most 60 rooms
-    few-rooms : length j ≤ 60
+    few-rooms : length (o .stars) ≤ 60
     unfolding test2
-    few-rooms = leb-true (length j) 60 (and-right (leb 1 (length j)) (leb (length j) 60) (c .rooms))
+    few-rooms = leb-true (length (o .stars)) 60 (and-right (leb 1 (length (o .stars))) (leb (length (o .stars)) 60) (c .rooms))
 
-    module _ (s : Sheet) (es : s ≡ sheetOf w) where
-      -- what placing the rooms asks
-      pub placed-asks : (n : ℕ) → n ≡ length j
-          → (s .width ≤ n + 2) × (1 ≤ s .width) × (s .height ≤ n + 2) × (1 ≤ s .height) × (n ≤ 60)
-      placed-asks n en =
-          let x : s .width ≡ sheetOf w .width = ap (λ (q : Sheet). q .width) es in
-          let y : s .height ≡ sheetOf w .height = ap (λ (q : Sheet). q .height) es in
-          let x′ : sheetOf w .width ≡ sheetOf (wallsOf j) .width = ap (λ (v : Walls). sheetOf v .width) ew in
-          let y′ : sheetOf w .height ≡ sheetOf (wallsOf j) .height = ap (λ (v : Walls). sheetOf v .height) ew in
-          let (most, high) = sheet-bound j c in
-          (omega (arith, x, x′, most), omega (arith, x), omega (arith, y, y′, high), omega (arith, y), omega (arith, few-rooms))
+    module _ (s : Sheet) (es : s ≡ sheetOf w) (b : Bool) (eb : b ≡ (leb (s .width) 250 && leb (s .height) 250)) where
+      -- the sheet is that of the plan
+      sheet-is : (s .width ≡ p .width) × (s .height ≡ p .height)
+      unfolding planOf
+      sheet-is =
+          let e : s ≡ record { width = at (c .xs) (low 3) + 1; height = at (c .ys) (low 0) + 1 } = es ∙ ap (λ (v : Walls). sheetOf v) ew ∙ c .reads .sheet in
+          (ap (λ (q : Sheet). q .width) e, ap (λ (q : Sheet). q .height) e)
 
-      -- the plan by wall numbers is held
-      pub all-numbered : (h : HeldPlan) (n : ℕ) → n ≡ length j → h ≡ heldPlan (planOn w s n)
-          → Draws (record { answer = Drawn; plan = h }) j (numberedAny j)
-      unfolding numberedAny byNumbers said kept
-      all-numbered h n en eh =
-          rw (c .is-upright, c .is-level) (record { says = ap (held j) (ap planIn held-is ∙ held-back j p (plan-complete j (at (c .xs)) (at (c .ys))) few-rooms); keeps = held-is })
-        where
-          held-is : h ≡ heldPlan p
-          held-is =
-              eh
-              ∙ ap heldPlan (ap (λ (m : ℕ). planOn w s m) en
-              ∙ ap (λ (q : Sheet). planOn w q (length j)) es
-              ∙ ap (λ (x : Walls). planOn x (sheetOf x) (length j)) ew
-              ∙ plan-same j (wallsOf j) (at (c .xs)) (at (c .ys)) (c .reads))
+      -- what is answered is test 18 of the plan
+      sheet-tested : b ≡ test18 p
+      unfolding test18
+      sheet-tested = eb ∙ rw (sheet-is .0, sheet-is .1)
+
+      -- 18: the sheet is over the limit
+      pub eighteen-numbered : (r : Drawing) → not b ≡ true → (r .answer ≡ Refused 18) × (r .plan ≡ noPlan) → Draws r o (numberedAny o)
+      unfolding fitted
+      eighteen-numbered r f q = refuses r o (numberedAny o) 18 (numbered-fitted ∙ past-false (test18 p) 18 _ (sym sheet-tested ∙ not-true b f)) q
+
+      module _ (f : not b ≡ false) where
+        -- the sheet is within the limit
+        within : (s .width ≤ 250) × (s .height ≤ 250)
+        within =
+            let (x, y) = and-parts (leb (s .width) 250) (leb (s .height) 250) (sym eb ∙ not-false b f) in
+            (leb-true (s .width) 250 x, leb-true (s .height) 250 y)
+
+        -- what placing the rooms asks
+        pub placed-asks : (n : ℕ) → n ≡ length (o .stars) → (s .width ≤ 250) × (1 ≤ s .width) × (s .height ≤ 250) × (1 ≤ s .height) × (n ≤ 60)
+        placed-asks n en =
+            let x : s .width ≡ sheetOf w .width = ap (λ (q : Sheet). q .width) es in
+            let y : s .height ≡ sheetOf w .height = ap (λ (q : Sheet). q .height) es in
+            (within .0, omega (arith, x), within .1, omega (arith, y), omega (arith, few-rooms))
+
+        -- the plan by wall numbers is held
+        pub all-numbered : (h : HeldPlan) (n : ℕ) → n ≡ length (o .stars) → h ≡ heldPlan (planOn w s n)
+            → Draws (record { answer = Drawn; plan = h }) o (numberedAny o)
+        unfolding said kept fitted
+        all-numbered h n en eh =
+            rw (numbered-fitted ∙ past-true (test18 p) 18 _ (sym sheet-tested ∙ not-false b f)) (record {
+              says = ap (held o) (ap planIn held-is ∙ held-back (o .stars) p (plan-complete (o .stars) (at (c .xs)) (at (c .ys))) few-rooms);
+              keeps = held-is;
+            })
+          where
+            held-is : h ≡ heldPlan p
+            held-is =
+                eh
+                ∙ ap heldPlan (ap (λ (m : ℕ). planOn w s m) en
+                ∙ ap (λ (q : Sheet). planOn w q (length (o .stars))) es
+                ∙ ap (λ (x : Walls). planOn x (sheetOf x) (length (o .stars))) ew
+                ∙ plan-same (o .stars) (wallsOf (o .stars) (o .sizes)) (at (c .xs)) (at (c .ys)) (c .reads))
 
 -- ---- test 9 of what is numbered
 
--- a plan by wall numbers, tested
+-- a plan by wall numbers on a sheet within the limit, tested
 thenTested : Answer → Answer
 thenTested (refused k) = refused k
-thenTested (held j p) = tested j p
+thenTested (held o p) = past (drawable (o .stars) p) 9 (λ _. held o p)
+
+-- tests 18 and 9 are test 18, then test 9
+fitted-tested : (o : SizedJob) (p : Plan) → tested o p ≡ thenTested (fitted o p)
+unfolding tested fitted
+fitted-tested o p = go (test18 p)
+  where
+    go : (b : Bool) → past b 18 (λ _. past (drawable (o .stars) p) 9 (λ _. held o p)) ≡ thenTested (past b 18 (λ _. held o p))
+    go true = unfold past thenTested in refl
+    go false = unfold past thenTested in refl
 
 -- DRAWING IS NUMBERING, THEN TEST 9
-numbered-tested : (j : Job) → drawnAny j ≡ thenTested (numberedAny j)
+numbered-tested : (o : SizedJob) → drawnAny o ≡ thenTested (numberedAny o)
 unfolding drawnAny numberedAny
-numbered-tested j = go (numbersIn upright j) (numbersIn level j)
+numbered-tested o = go (numbersIn upright (o .stars) (o .sizes)) (numbersIn level (o .stars) (o .sizes))
   where
-    go : (a b : Option (List ℕ)) → planned j a b ≡ thenTested (byNumbers j a b)
+    go : (a b : Option (List ℕ)) → planned o a b ≡ thenTested (byNumbers o a b)
     go none none = unfold planned byNumbers thenTested in refl
     go none (some g) = unfold planned byNumbers thenTested in refl
     go (some f) none = unfold planned byNumbers thenTested in refl
-    go (some f) (some g) = unfold planned byNumbers thenTested in refl
+    go (some f) (some g) = unfold planned byNumbers in fitted-tested o (planOf (o .stars) (at f) (at g))
 
-module _ (j : Job) (r : Drawing) (d : Draws r j (numberedAny j)) where
-  -- 7 stays 7
-  pub undrawn : (k : ℕ) → r .answer ≡ Refused k → (t : Drawing) → (t .answer ≡ Refused k) × (t .plan ≡ noPlan) → Draws t j (drawnAny j)
+module _ (o : SizedJob) (r : Drawing) (d : Draws r o (numberedAny o)) where
+  -- 7 and 18 stay
+  pub undrawn : (k : ℕ) → r .answer ≡ Refused k → (t : Drawing) → (t .answer ≡ Refused k) × (t .plan ≡ noPlan) → Draws t o (drawnAny o)
   unfolding said thenTested
   undrawn k e t q =
-      let f : numberedAny j ≡ refused k = sym (rw e at (d .says)) in
-      refuses t j (drawnAny j) k (numbered-tested j ∙ ap thenTested f) q
+      let f : numberedAny o ≡ refused k = sym (rw e at (d .says)) in
+      refuses t o (drawnAny o) k (numbered-tested o ∙ ap thenTested f) q
 
   module _ (e : r .answer ≡ Drawn) (m : ℕ) (em : m ≡ r .plan .rooms) (b : Bool)
-      (eb : b ≡ drawable j (planFrom (r .plan .width) (r .plan .height) (m + 4) (r .plan .rects))) where
+      (eb : b ≡ drawable (o .stars) (planFrom (r .plan .width) (r .plan .height) (m + 4) (r .plan .rects))) where
     -- numbering the job comes to the plan that is kept
-    numbered-is : numberedAny j ≡ held j (planIn (r .plan))
+    numbered-is : numberedAny o ≡ held o (planIn (r .plan))
     unfolding said
     numbered-is = sym (rw e at (d .says))
 
     -- drawing the job comes to test 9 of that plan
-    drawn-tested : drawnAny j ≡ tested j (planIn (r .plan))
+    drawn-tested : drawnAny o ≡ past (drawable (o .stars) (planIn (r .plan))) 9 (λ _. held o (planIn (r .plan)))
     unfolding thenTested
-    drawn-tested = numbered-tested j ∙ ap thenTested numbered-is
+    drawn-tested = numbered-tested o ∙ ap thenTested numbered-is
 
     -- what is answered is the drawing test of that plan
-    draws : b ≡ drawable j (planIn (r .plan))
+    draws : b ≡ drawable (o .stars) (planIn (r .plan))
     unfolding planIn
     draws = rw em at eb
 
     -- 9: the drawing test fails
-    pub nine-drawn : not b ≡ true → (t : Drawing) → (t .answer ≡ Refused 9) × (t .plan ≡ noPlan) → Draws t j (drawnAny j)
-    unfolding tested
-    nine-drawn f t q = refuses t j (drawnAny j) 9 (drawn-tested ∙ past-false (drawable j (planIn (r .plan))) 9 _ (sym draws ∙ not-true b f)) q
+    pub nine-drawn : not b ≡ true → (t : Drawing) → (t .answer ≡ Refused 9) × (t .plan ≡ noPlan) → Draws t o (drawnAny o)
+    nine-drawn f t q =
+        refuses t o (drawnAny o) 9 (drawn-tested ∙ past-false (drawable (o .stars) (planIn (r .plan))) 9 _ (sym draws ∙ not-true b f)) q
 
     -- what is numbered is drawn
-    pub all-drawn : not b ≡ false → Draws r j (drawnAny j)
-    unfolding tested
+    pub all-drawn : not b ≡ false → Draws r o (drawnAny o)
     all-drawn f =
-        let g : drawnAny j ≡ numberedAny j = drawn-tested ∙ past-true (drawable j (planIn (r .plan))) 9 _ (sym draws ∙ not-false b f) ∙ sym numbered-is in
+        let g : drawnAny o ≡ numberedAny o =
+        drawn-tested ∙ past-true (drawable (o .stars) (planIn (r .plan))) 9 _ (sym draws ∙ not-false b f) ∙ sym numbered-is in
         rw g d
 
 -- held stars are as many as the job has

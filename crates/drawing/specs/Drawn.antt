@@ -5,9 +5,9 @@ use mathlib.Core.Option.{Option, none, some}
 use mathlib.Core.List.{List, [], _∷_, _++_, map}
 use lib.ListN.{getD}
 use Rattle.floor.specs.Lists.{upFrom}
-use Rattle.floor.specs.Jobs.{Job}
+use Rattle.floor.specs.Jobs.{SizedJob}
 use Rattle.floor.specs.Walls.{upright, level, at}
-use Rattle.floor.specs.Plans.{Rect, Plan, roomRect, planOf, Answer, refused, held, planned}
+use Rattle.floor.specs.Plans.{Rect, Plan, roomRect, planOf, Answer, refused, held, past, test18, planned}
 use Rattle.walls.specs.declared.Walls.{Walls}
 use Rattle.walls.specs.declared.Sheet.{Sheet}
 use Rattle.walls.specs.Numbers.{numbersIn}
@@ -17,20 +17,24 @@ use Rattle.drawing.specs.declared.Plan.{Plan as HeldPlan}
 use Rattle.drawing.specs.declared.Drawing.{Drawing}
 use Rattle.drawing.specs.Rects.{planIn, noPlan, heldPlan}
 
--- the plan by the numbers, where both directions have some
-unfoldable pub byNumbers : Job → Option (List ℕ) → Option (List ℕ) → Answer
-byNumbers j (some f) (some g) = held j (planOf j (at f) (at g))
-byNumbers j (some f) none = refused 7
-byNumbers j none (some g) = refused 7
-byNumbers j none none = refused 7
+-- TEST 18 ALONE of a plan by wall numbers
+unfoldable pub fitted : SizedJob → Plan → Answer
+fitted o p = past (test18 p) 18 (λ _. held o p)
 
--- TEST 7 ALONE OF ANY JOB, with the numbers that the walls promise of any job
-unfoldable pub numberedAny : Job → Answer
-numberedAny j = byNumbers j (numbersIn upright j) (numbersIn level j)
+-- the plan by the numbers, where both directions have some and its sheet passes test 18
+unfoldable pub byNumbers : SizedJob → Option (List ℕ) → Option (List ℕ) → Answer
+byNumbers o (some f) (some g) = fitted o (planOf (o .stars) (at f) (at g))
+byNumbers o (some f) none = refused 7
+byNumbers o none (some g) = refused 7
+byNumbers o none none = refused 7
 
--- TESTS 7 AND 9 OF ANY JOB, with the same numbers
-unfoldable pub drawnAny : Job → Answer
-drawnAny j = planned j (numbersIn upright j) (numbersIn level j)
+-- TESTS 7 AND 18 OF ANY JOB, with the numbers that the walls promise of any job
+unfoldable pub numberedAny : SizedJob → Answer
+numberedAny o = byNumbers o (numbersIn upright (o .stars) (o .sizes)) (numbersIn level (o .stars) (o .sizes))
+
+-- TESTS 7, 18 AND 9 OF ANY JOB, with the same numbers
+unfoldable pub drawnAny : SizedJob → Answer
+drawnAny o = planned o (numbersIn upright (o .stars) (o .sizes)) (numbersIn level (o .stars) (o .sizes))
 
 -- the rectangle of vertex v by the upright numbers and the level ones
 unfoldable pub walledBy : List ℕ → List ℕ → ℕ → Rect
@@ -58,16 +62,16 @@ abbrev pub planOn : Walls → Sheet → ℕ → Plan
 planOn w s n = planBy (w .uprights .0) (w .levels .0) s n
 
 -- what an answer says, beside the job and the plan: these, held, or the number of the test that fails
-unfoldable pub said : Said → Job → Plan → Answer
-said Drawn j p = held j p
-said (Refused k) j p = refused k
+unfoldable pub said : Said → SizedJob → Plan → Answer
+said Drawn o p = held o p
+said (Refused k) o p = refused k
 
 -- the plan that is kept of it: none where it is refused
 unfoldable pub kept : Answer → HeldPlan
 kept (refused k) = noPlan
-kept (held j p) = heldPlan p
+kept (held o p) = heldPlan p
 
 -- a drawing tells what drawing the job came to, and keeps the plan of it
-pub record Draws (r : Drawing) (j : Job) (x : Answer) : Type 0 where
-  pub says : said (r .answer) j (planIn (r .plan)) ≡ x
+pub record Draws (r : Drawing) (o : SizedJob) (x : Answer) : Type 0 where
+  pub says : said (r .answer) o (planIn (r .plan)) ≡ x
   pub keeps : r .plan ≡ kept x

@@ -1,14 +1,19 @@
-// Plans: rectangles by wall numbers, the drawing test, tests 7 and 9 of held stars, and a plan's bytes.
+// Plans: rectangles by wall numbers, the drawing test, tests 7, 18 and 9 of held stars with their least sizes, and a plan's bytes.
 ghost use mathlib.Core.Path.{_≡_};
+ghost use mathlib.Core.Bool.{_&&_};
 ghost use Prim.Native.Nat.{_+_, _<_};
+ghost use lib.Dec.{leb};
 ghost use lib.ListN.{getD, replicate};
+ghost use Rattle.floor.specs.Jobs.{sizedJob};
 ghost use Rattle.floor.specs.Plans.{nowhere, drawable, writePlan};
 ghost use Rattle.fields.specs.Writes.{replied, writing};
 ghost use Rattle.stars.specs.Held.{jobIn};
+ghost use Rattle.stars.specs.Sized.{sizesIn};
 ghost use Rattle.drawing.specs.Rects.{rectIn, rectsIn, planFrom, inBytes, noPlan};
 ghost use Rattle.drawing.specs.declared.Answer.the-variants.{Refused};
 ghost use Rattle.drawing.specs.Drawn.{numberedAny, drawnAny, Draws};
 use fields::Written;
+use walls::Sheet;
 
 pub mod rects; // rects.rt: one rectangle and two: inside, apart, touch, corner, area
 mod held; // held.rt: the held rectangles, read
@@ -41,7 +46,7 @@ pub struct Plan {
     pub rects: [u16; 256],
 }
 
-// What tests 7 and 9 answer: the job is drawn, or the number of the first that fails.
+// What tests 7, 18 and 9 answer: the job is drawn, or the number of the first that fails.
 pub enum Answer {
     Drawn,
     Refused(u8),
@@ -118,12 +123,29 @@ fn drawable<'a>(
     order::all_ordered(rects, many, ends, nbr, kind, count)
 }
 
-// Held stars numbered: test 7, and the plan by their wall numbers.
-pub fn plan_stars<'a>(ends: &'a [u16], nbr: &'a [u16], kind: &'a [u8], count: usize) -> Drawing
-    ensures { λ r. ⌜ Draws r (jobIn count (now (ends .entry)) (now (nbr .entry)) (now (kind .entry)))
-        (numberedAny (jobIn count (now (ends .entry)) (now (nbr .entry)) (now (kind .entry)))) ⌝ }
+// Whether a sheet is no wider and no higher than 250.
+fn sheet_fits(sheet: Sheet) -> bool
+    ensures { λ r. ⌜ r ≡ (leb (sheet .width) 250 && leb (sheet .height) 250) ⌝ }
 {
-    let walls = walls::walls_of(ends, nbr, kind, count);
+    if 250 < sheet.width {
+        return false;
+    }
+    sheet.height <= 250
+}
+
+// Held stars numbered, with their least sizes: tests 7 and 18, and the plan by their wall numbers.
+pub fn plan_stars<'a>(
+    ends: &'a [u16],
+    nbr: &'a [u16],
+    kind: &'a [u8],
+    count: usize,
+    told: usize,
+    sizes: &'a [u8],
+) -> Drawing
+    ensures { λ r. ⌜ Draws r (sizedJob (jobIn count (now (ends .entry)) (now (nbr .entry)) (now (kind .entry))) (sizesIn told (now (sizes .entry))))
+        (numberedAny (sizedJob (jobIn count (now (ends .entry)) (now (nbr .entry)) (now (kind .entry))) (sizesIn told (now (sizes .entry))))) ⌝ }
+{
+    let walls = walls::walls_of(ends, nbr, kind, count, told, sizes);
     let answer = walls.answer;
     let walls::Answer::Numbered = answer else {
         return refused(7);
@@ -133,6 +155,9 @@ pub fn plan_stars<'a>(ends: &'a [u16], nbr: &'a [u16], kind: &'a [u8], count: us
     let xs = uprights.0;
     let ys = levels.0;
     let sheet = walls::sheet_at(&xs, &ys);
+    if !sheet_fits(sheet) {
+        return refused(18);
+    }
     let plan = place::plan_of(&xs, &ys, sheet, count);
     Drawing {
         answer: Answer::Drawn,
@@ -140,12 +165,19 @@ pub fn plan_stars<'a>(ends: &'a [u16], nbr: &'a [u16], kind: &'a [u8], count: us
     }
 }
 
-// Held stars numbered and drawn: tests 7 and 9.
-pub fn draw<'a>(ends: &'a [u16], nbr: &'a [u16], kind: &'a [u8], count: usize) -> Drawing
-    ensures { λ r. ⌜ Draws r (jobIn count (now (ends .entry)) (now (nbr .entry)) (now (kind .entry)))
-        (drawnAny (jobIn count (now (ends .entry)) (now (nbr .entry)) (now (kind .entry)))) ⌝ }
+// Held stars numbered and drawn, with their least sizes: tests 7, 18 and 9.
+pub fn draw<'a>(
+    ends: &'a [u16],
+    nbr: &'a [u16],
+    kind: &'a [u8],
+    count: usize,
+    told: usize,
+    sizes: &'a [u8],
+) -> Drawing
+    ensures { λ r. ⌜ Draws r (sizedJob (jobIn count (now (ends .entry)) (now (nbr .entry)) (now (kind .entry))) (sizesIn told (now (sizes .entry))))
+        (drawnAny (sizedJob (jobIn count (now (ends .entry)) (now (nbr .entry)) (now (kind .entry))) (sizesIn told (now (sizes .entry))))) ⌝ }
 {
-    let drawing = plan_stars(ends, nbr, kind, count);
+    let drawing = plan_stars(ends, nbr, kind, count, told, sizes);
     let plan = drawing.plan;
     let answer = drawing.answer;
     match answer {

@@ -70,7 +70,7 @@ fn put_rooms<'a>(rects: &mut [u16], xs: &'a [u16], ys: &'a [u16], count: usize)
 
 // The plan of so many rooms on a sheet.
 pub fn plan_of<'a>(xs: &'a [u16], ys: &'a [u16], sheet: Sheet, count: usize) -> Plan
-    requires { ⌜ (sheet .width ≤ count + 2) × (1 ≤ sheet .width) × (sheet .height ≤ count + 2) × (1 ≤ sheet .height) × (count ≤ 60) ⌝ }
+    requires { ⌜ (sheet .width ≤ 250) × (1 ≤ sheet .width) × (sheet .height ≤ 250) × (1 ≤ sheet .height) × (count ≤ 60) ⌝ }
     ensures { λ r. ⌜ r ≡ heldPlan (planBy (now (xs .entry)) (now (ys .entry)) sheet count) ⌝ }
 {
     let mut rects = crate::noughts();

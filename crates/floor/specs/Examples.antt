@@ -1,4 +1,4 @@
--- THE EXAMPLES P1 TO P12, and some questions and writings, as one table under one claim. Assumes nothing.
+-- THE EXAMPLES P1 TO P12, some with least sizes, and some questions and writings, as one table under one claim. Assumes nothing.
 use Prim.Native.Nat.{ℕ, _+_, _-_}
 use mathlib.Core.Path.{_≡_, refl}
 use mathlib.Core.Bool.{Bool, true, cond}
@@ -6,14 +6,15 @@ use mathlib.Core.List.{List, [], _∷_, _++_, map}
 use lib.Dec.{eqb}
 use lib.ListN.{replicate}
 use Rattle.floor.specs.Lists.{all, any, keep, pairwise, sum, sameNumbers, upFrom}
-use Rattle.floor.specs.Fields.{readField, restOf, writeField}
+use Rattle.floor.specs.Fields.{readField, restOf, writeField, afterFields}
 use Rattle.floor.specs.Jobs.{linksTo, links, changes, goesOn, Star, Job, opposite, frameKind, rooms, isVertex, isRoom, starOf, names, lists, kindOf}
 use Rattle.floor.specs.Jobs.{listOf, pairsIn, test2, test3, entryOk, test4, starOk, test5, test6, entries, starThen, readStars, readRest, readRooms}
-use Rattle.floor.specs.Jobs.{readFirst, readJob, passing, firstSix, starBytes, writeStars, writeJob}
-use Rattle.floor.specs.Walls.{entryRules, starRules, rulesFrom, raise, relax1, relax, meets, over, passes, numbersOf, jobNumbers}
+use Rattle.floor.specs.Jobs.{readFirst, readJob, passing, firstSix, starBytes, writeStars, writeJob, SizedJob, sizedJob, sizeOf, sizeOk, larger, test17}
+use Rattle.floor.specs.Jobs.{sizePairs, sizesIn, readSizes, sizesPass, withSizes, sizeBytes, writeSizes, writeSized}
+use Rattle.floor.specs.Walls.{entryRules, starRules, rulesFrom, raise, relax1, relax, meets, over, passes, numbersOf, jobNumbers, extra, topOf}
 use Rattle.floor.specs.Plans.{Rect, rectOf, roomRect, planOf, inside, overlap, abut, apart, area, corner, nextSide, joined, sharesJoined, follows}
 use Rattle.floor.specs.Plans.{inOrder, roundInOrder, drawable, past, tested, planned, drawn, drawRead, rectBytes, writeRects, writePlan, isWall, onLine}
-use Rattle.floor.specs.Plans.{facing, touchOn, touchOf, clear, wall}
+use Rattle.floor.specs.Plans.{facing, touchOn, touchOf, clear, wall, test18}
 use Rattle.floor.specs.Registers.{lowSide, highSide, wideOf, longOf, sidesIn, roomSides, built, starts, endFrom, between, partition, wallsOn, wallsOf}
 use Rattle.floor.specs.Registers.{registerOf, register, partitionBytes, writeRegister}
 use Rattle.floor.specs.Cuts.{lowPart, highPart, crosses, uncrossed, firstOf, firstCut, choice, chosen, both, divided, grow, span, treeOf, wayByte}
@@ -29,7 +30,7 @@ p1 =
     ∷ 2 ∷ 0 ∷ 8 ∷ 0 ∷ 0 ∷ 1 ∷ 1 ∷ 2 ∷ 2 ∷ 3 ∷ 3 ∷ []
 
 -- P5: rooms 4 and 5 side by side
-p5 : List ℕ
+unfoldable pub p5 : List ℕ
 p5 =
     1 ∷ 0 ∷ 1 ∷ 2
     ∷ 2 ∷ 0 ∷ 8 ∷ 0 ∷ 0 ∷ 1 ∷ 1 ∷ 2 ∷ 2 ∷ 5 ∷ 3
@@ -96,6 +97,14 @@ p10 =
     ∷ 2 ∷ 0 ∷ 8 ∷ 4 ∷ 0 ∷ 1 ∷ 1 ∷ 2 ∷ 2 ∷ 7 ∷ 3
     ∷ 2 ∷ 0 ∷ 8 ∷ 5 ∷ 0 ∷ 6 ∷ 1 ∷ 2 ∷ 2 ∷ 3 ∷ 3 ∷ []
 
+-- P5 with least sizes: 4 is at least 3 wide
+unfoldable pub sized5 : List ℕ
+sized5 = p5 ++ 7 ∷ 0 ∷ 4 ∷ 3 ∷ 1 ∷ 1 ∷ 1 ∷ []
+
+-- F with least sizes: 5 at least 4 high, 7 at least 3 wide
+sizedF : List ℕ
+sizedF = jobF ++ 7 ∷ 0 ∷ 8 ∷ 1 ∷ 1 ∷ 1 ∷ 4 ∷ 1 ∷ 1 ∷ 3 ∷ 1 ∷ []
+
 -- 1 room at x 1..2, y 1..2, sheet 3 by 3
 floorP1 : List ℕ
 floorP1 =
@@ -130,6 +139,34 @@ turnedF =
     ∷ 5 ∷ 2 ∷ 2 ∷ 4 ∷ 3
     ∷ 6 ∷ 1 ∷ 1 ∷ 3 ∷ 2
     ∷ 7 ∷ 3 ∷ 1 ∷ 4 ∷ 2 ∷ []
+
+-- 4 is x 1..4, 5 is x 4..5
+floorSized5 : List ℕ
+floorSized5 =
+    6 ∷ 3
+    ∷ 0 ∷ 1 ∷ 2 ∷ 5 ∷ 3 ∷ 1 ∷ 0 ∷ 0 ∷ 1 ∷ 3 ∷ 2 ∷ 1 ∷ 0 ∷ 5 ∷ 1 ∷ 3 ∷ 5 ∷ 0 ∷ 6 ∷ 3
+    ∷ 4 ∷ 1 ∷ 1 ∷ 4 ∷ 2
+    ∷ 5 ∷ 4 ∷ 1 ∷ 5 ∷ 2 ∷ []
+
+-- the plan of F with least sizes
+floorSizedF : List ℕ
+floorSizedF =
+    6 ∷ 7
+    ∷ 0 ∷ 1 ∷ 6 ∷ 5 ∷ 7 ∷ 1 ∷ 0 ∷ 0 ∷ 1 ∷ 7 ∷ 2 ∷ 1 ∷ 0 ∷ 5 ∷ 1 ∷ 3 ∷ 5 ∷ 0 ∷ 6 ∷ 7
+    ∷ 4 ∷ 1 ∷ 3 ∷ 2 ∷ 6
+    ∷ 5 ∷ 2 ∷ 2 ∷ 5 ∷ 6
+    ∷ 6 ∷ 1 ∷ 1 ∷ 2 ∷ 3
+    ∷ 7 ∷ 2 ∷ 1 ∷ 5 ∷ 2 ∷ []
+
+-- the same, then turn 5 and 6
+turnedSizedF : List ℕ
+turnedSizedF =
+    7 ∷ 7
+    ∷ 0 ∷ 1 ∷ 6 ∷ 6 ∷ 7 ∷ 1 ∷ 0 ∷ 0 ∷ 1 ∷ 7 ∷ 2 ∷ 1 ∷ 0 ∷ 6 ∷ 1 ∷ 3 ∷ 6 ∷ 0 ∷ 7 ∷ 7
+    ∷ 4 ∷ 1 ∷ 2 ∷ 2 ∷ 6
+    ∷ 5 ∷ 2 ∷ 2 ∷ 6 ∷ 6
+    ∷ 6 ∷ 1 ∷ 1 ∷ 3 ∷ 2
+    ∷ 7 ∷ 3 ∷ 1 ∷ 6 ∷ 2 ∷ []
 
 -- the plan of P1 as bytes
 planP1 : List ℕ
@@ -176,6 +213,10 @@ rowStar n v =
 -- n rooms in a row
 unfoldable row : ℕ → Job
 row n = map (rowStar n) (upFrom 4 n)
+
+-- the same, each at least 15 wide
+unfoldable wideRow : ℕ → SizedJob
+wideRow n = sizedJob (row n) (replicate n (record { wide = 15; tall = 1 }))
 
 -- the numbers of some rectangles
 unfoldable pub numbers : List Rect → List ℕ
@@ -339,17 +380,57 @@ table =
     ∷
     -- the plan of P1 written: 45 bytes, and the one behind untouched
     record { before = loads p1 ∷ []; last = writesPlan (replicate 46 7); shows = 45 ∷ (planP1 ++ 7 ∷ []) }
+    ∷
+    -- sixteen rooms in a row, each 15 wide: sheet 242 by 3
+    record { before = loads (writeSized (wideRow 16)) ∷ []; last = rectangle 19; shows = 19 ∷ 226 ∷ 1 ∷ 241 ∷ 2 ∷ [] }
+    ∷
+    -- seventeen: 257 by 3
+    record { before = []; last = loads (writeSized (wideRow 17)); shows = 18 ∷ [] }
+    ∷
+    -- 4 at least 3 wide: sheet 6 by 3
+    record { before = []; last = loads sized5; shows = floorSized5 }
+    ∷
+    -- written, it is the very bytes
+    record { before = loads sized5 ∷ []; last = writesJob (replicate 33 9); shows = 33 ∷ sized5 }
+    ∷
+    -- all ones
+    record { before = []; last = loads (p5 ++ 7 ∷ 0 ∷ 4 ∷ 1 ∷ 1 ∷ 1 ∷ 1 ∷ []); shows = 17 ∷ [] }
+    ∷
+    -- a size of 0
+    record { before = []; last = loads (p5 ++ 7 ∷ 0 ∷ 4 ∷ 3 ∷ 0 ∷ 1 ∷ 1 ∷ []); shows = 17 ∷ [] }
+    ∷
+    -- a size of 16, and the walls in a circle
+    record { before = []; last = loads (p7 ++ 7 ∷ 0 ∷ 6 ∷ 1 ∷ 1 ∷ 16 ∷ 1 ∷ 1 ∷ 1 ∷ []); shows = 17 ∷ [] }
+    ∷
+    -- a size for one room of two
+    record { before = []; last = loads (p5 ++ 7 ∷ 0 ∷ 2 ∷ 3 ∷ 1 ∷ []); shows = 1 ∷ [] }
+    ∷
+    -- another tag
+    record { before = []; last = loads (p5 ++ 8 ∷ 0 ∷ 4 ∷ 3 ∷ 1 ∷ 1 ∷ 1 ∷ []); shows = 1 ∷ [] }
+    ∷
+    -- the sizes twice
+    record { before = []; last = loads (sized5 ++ 7 ∷ 0 ∷ 4 ∷ 3 ∷ 1 ∷ 1 ∷ 1 ∷ []); shows = 1 ∷ [] }
+    ∷
+    -- F with least sizes
+    record { before = []; last = loads sizedF; shows = floorSizedF }
+    ∷
+    -- turned, it keeps them
+    record { before = loads sizedF ∷ []; last = turns 5 6; shows = turnedSizedF }
+    ∷
+    -- turned again
+    record { before = loads sizedF ∷ turns 5 6 ∷ []; last = turns 6 5; shows = floorSizedF }
     ∷ []
 
 -- EVERY ROW HOLDS
 pub examples : all right table ≡ true
-unfolding rowStar row p1 p5 p6 p7 jobF jobG turnedG oneRoom below p10 floorP1 floorP5 floorF turnedF planP1 sameNumbers numbers plan told right table all
-    any keep pairwise sum upFrom linksTo links changes goesOn endsAt isLast readField restOf writeField opposite frameKind rooms isVertex isRoom starOf
-    names lists kindOf listOf pairsIn test2 test3 entryOk test4 starOk registerP1 registerF lowSide highSide wideOf longOf sidesIn roomSides built starts
-    endFrom between partition wallsOn wallsOf registerOf register partitionBytes writeRegister test5 test6 entries starThen readStars readRest readRooms
-    readFirst readJob passing firstSix starBytes writeStars writeJob entryRules starRules rulesFrom raise relax1 relax meets over passes numbersOf
-    jobNumbers rectOf roomRect planOf inside overlap abut apart area corner nextSide joined sharesJoined follows inOrder roundInOrder drawable past tested
-    planned drawn rectBytes writeRects writePlan uncrossed crosses firstOf firstCut choice chosen both divided grow span treeOf wayByte writeTree lowPart
-    highPart roomsOf inner planTree isTree writesTree cutsF wheel turnedKind withKind turned turningAt turningFrom turning inContact turn drawRead load
-    refuse after asks writes step run isWall onLine facing touchOn touchOf touching
+unfolding rowStar row wideRow p1 p5 p6 p7 jobF jobG turnedG oneRoom below p10 floorP1 floorP5 floorF turnedF planP1 sameNumbers numbers plan told right
+    table all any keep pairwise sum upFrom linksTo links changes goesOn endsAt isLast readField restOf writeField opposite frameKind rooms isVertex isRoom
+    starOf names lists kindOf listOf pairsIn test2 test3 entryOk test4 starOk registerP1 registerF lowSide highSide wideOf longOf sidesIn roomSides built
+    starts endFrom between partition wallsOn wallsOf registerOf register partitionBytes writeRegister test5 test6 entries starThen readStars readRest
+    readRooms readFirst readJob passing firstSix starBytes writeStars writeJob entryRules starRules rulesFrom raise relax1 relax meets over passes
+    numbersOf jobNumbers rectOf roomRect planOf inside overlap abut apart area corner nextSide joined sharesJoined follows inOrder roundInOrder drawable
+    past tested planned drawn rectBytes writeRects writePlan uncrossed crosses firstOf firstCut choice chosen both divided grow span treeOf wayByte
+    writeTree lowPart highPart roomsOf inner planTree isTree writesTree cutsF wheel turnedKind withKind turned turningAt turningFrom turning inContact turn
+    drawRead load refuse after asks writes step run isWall onLine facing touchOn touchOf touching sized5 sizedF floorSized5 floorSizedF turnedSizedF
+    afterFields sizeOf sizeOk larger test17 sizePairs sizesIn readSizes sizesPass withSizes sizeBytes writeSizes writeSized extra topOf test18
 examples = refl

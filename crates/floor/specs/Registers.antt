@@ -10,7 +10,7 @@ use lib.Dec.{leb, ltb, eqb}
 use Rattle.floor.specs.Lists.{any, keep, pairwise, upFrom}
 use Rattle.floor.specs.Fields.{writeField}
 use Rattle.floor.specs.Jobs.{Job, Room}
-use Rattle.floor.specs.Walls.{OnWall, Axis, upright, level, low, high, rules}
+use Rattle.floor.specs.Walls.{OnWall, Axis, upright, level, low, high, rules, Rule}
 use Rattle.floor.specs.Plans.{Rect, Plan, rectOf}
 pub mod Runs
 pub mod Floors
@@ -67,6 +67,10 @@ abbrev pub axisOf : ℕ → Axis
 axisOf zero = upright
 axisOf (suc d) = level
 
+-- what joins sides to walls: the rules of a direction; least sizes join nothing (Walls/Rules `walls-any`), and are left out here
+abbrev pub joins : ℕ → Job → List Rule
+joins d j = rules (axisOf d) j []
+
 -- s is a side of a room, and lies where t says
 pub data Lies (d : ℕ) (j : Job) (p : Plan) (s : ℕ) (t : Stretch) : Type 0 where
   as-low : (v : ℕ) → Room j v → s ≡ low v → t ≡ lowSide d (rectOf p v) → Lies d j p s t
@@ -81,16 +85,16 @@ sidesFrom u (suc n) = low u ∷ high u ∷ sidesFrom (suc u) n
 pub record WallOf (d : ℕ) (j : Job) (p : Plan) (s : ℕ) (w : Partition) : Type 0 where
   pub is-direction : w .direction ≡ d
   -- every room side on the wall lies on its line, and between its beginning and its end
-  pub within : (t : ℕ) (q : Stretch) → Lies d j p t q → OnWall (rules (axisOf d) j) s t → (q .line ≡ w .number) × (w .begins ≤ q .begins) × (q .ends ≤ w .ends)
+  pub within : (t : ℕ) (q : Stretch) → Lies d j p t q → OnWall (joins d j) s t → (q .line ≡ w .number) × (w .begins ≤ q .begins) × (q .ends ≤ w .ends)
   -- some side of it begins where it begins, and some side ends where it ends
-  pub first : (t : ℕ) × (q : Stretch) × Lies d j p t q × OnWall (rules (axisOf d) j) s t × (q .begins ≡ w .begins)
-  pub last : (t : ℕ) × (q : Stretch) × Lies d j p t q × OnWall (rules (axisOf d) j) s t × (q .ends ≡ w .ends)
+  pub first : (t : ℕ) × (q : Stretch) × Lies d j p t q × OnWall (joins d j) s t × (q .begins ≡ w .begins)
+  pub last : (t : ℕ) × (q : Stretch) × Lies d j p t q × OnWall (joins d j) s t × (q .ends ≡ w .ends)
   -- along its whole length some side of it lies: no gap
   pub whole : (c : ℕ) → w .begins ≤ c → c < w .ends
-      → (t : ℕ) × (q : Stretch) × Lies d j p t q × OnWall (rules (axisOf d) j) s t × (q .begins ≤ c) × (c < q .ends)
+      → (t : ℕ) × (q : Stretch) × Lies d j p t q × OnWall (joins d j) s t × (q .begins ≤ c) × (c < q .ends)
   -- the sides on it, counted
   pub on : ℕ → Bool
-  pub on-exactly : (t : ℕ) (q : Stretch) → Lies d j p t q → (on t ≡ true) ↔ OnWall (rules (axisOf d) j) s t
+  pub on-exactly : (t : ℕ) (q : Stretch) → Lies d j p t q → (on t ≡ true) ↔ OnWall (joins d j) s t
   pub counted : w .sides ≡ length (keep on (sidesFrom 4 (length j)))
 
 -- THE REGISTER BY THE JOB'S CONTACTS: each entry is some room side's wall, every room side's wall is entered, and the entries stand in order, none twice

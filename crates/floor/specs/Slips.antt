@@ -6,11 +6,12 @@ use mathlib.Core.Option.{Option, none, some}
 use mathlib.Core.List.{List}
 use lib.Dec.{eqb}
 use lib.ListN.{length}
-use Rattle.floor.specs.Lists.{keep}
-use Rattle.floor.specs.Fields.{readField, restOf}
-use Rattle.floor.specs.Jobs.{Job, Reading, fails, reads, entries, starThen, readStars, readRest, readRooms, readFirst, readJob, test2}
-use Rattle.floor.specs.Walls.{Rule, same, before, Axis, upright, level, at, rules, entryRules, starRules, rulesFrom, raise, relax1, relax, meets, over}
-use Rattle.floor.specs.Walls.{passes, numbersOf}
+use Rattle.floor.specs.Lists.{keep, sum, upFrom}
+use Rattle.floor.specs.Fields.{readField, restOf, afterFields}
+use Rattle.floor.specs.Jobs.{Job, Sizes, SizedJob, sizeOf, Reading, fails, reads, entries, starThen, readStars, sizePairs, sizesIn, readSizes, readRest}
+use Rattle.floor.specs.Jobs.{readRooms, readFirst, readJob, rooms, test2}
+use Rattle.floor.specs.Walls.{Rule, same, before, Axis, upright, level, at, extra, rules, topOf, entryRules, starRules, rulesFrom}
+use Rattle.floor.specs.Walls.{raise, relax1, relax, meets, over, passes, numbersOf}
 use Rattle.floor.specs.Plans.{roomRect, abut, corner}
 use Rattle.floor.specs.Examples.{jobF}
 
@@ -20,8 +21,8 @@ fromRooms (same a b) = true
 fromRooms (before a b x) = eqb b (a + 1)
 
 -- the numbers without the rules of contacts across
-unfoldable pub roomsOnly : Axis → Job → Option (List ℕ)
-roomsOnly a j = numbersOf (keep fromRooms (rules a j)) (2 * (length j + 4)) (1 + length j)
+unfoldable pub roomsOnly : Axis → Job → Sizes → Option (List ℕ)
+roomsOnly a j z = numbersOf (keep fromRooms (rules a j z)) (2 * (length j + 4)) (topOf a j z)
 
 -- rooms 5 and 6 meet only at a corner point
 unfoldable pub atPoint : Option (List ℕ) → Option (List ℕ) → Bool
@@ -30,12 +31,13 @@ atPoint (some f) none = false
 atPoint none b = false
 
 -- of a job that was read
-unfoldable pub slips : Reading → Bool
+unfoldable pub slips : Reading SizedJob → Bool
 slips (fails k) = false
-slips (reads j) = atPoint (roomsOnly upright j) (roomsOnly level j)
+slips (reads o) = atPoint (roomsOnly upright (o .stars) (o .sizes)) (roomsOnly level (o .stars) (o .sizes))
 
 -- NUMBERED FROM ROOMS ONLY, without the contact rules, rooms 5 and 6 of F meet at a point
 pub rooms-only : slips (readJob jobF) ≡ true
-unfolding fromRooms roomsOnly atPoint slips jobF keep readField restOf entries starThen readStars readRest readRooms readFirst readJob test2 entryRules
+unfolding fromRooms roomsOnly atPoint slips jobF keep sum upFrom readField restOf afterFields entries starThen readStars sizePairs sizesIn readSizes readRest
+    readRooms readFirst readJob rooms sizeOf test2 extra topOf entryRules
     starRules rulesFrom raise relax1 relax meets over passes numbersOf roomRect abut corner
 rooms-only = refl

@@ -1,4 +1,4 @@
-// The numbers of tests 1 to 6 on examples and at the limits, the star question, and a job written back.
+// The numbers of tests 1 to 6 and 17 on examples and at the limits, the star question, and jobs written back.
 use fields::Written;
 use jobs::Answer;
 
@@ -46,38 +46,42 @@ fn show_limits() {
     show(b"361 pairs", &job);
 }
 
-// A job read, written into a buffer with a byte too many, and into one with a byte too few.
-fn show_written(job: &[u8]) {
+// A job read, and written into a buffer.
+fn show_written(job: &[u8], out: &mut [u8]) {
     let read = jobs::read_job(job);
     let stars = read.stars;
-    let mut out = [9u8; 16];
-    let written = jobs::write_job(&stars.ends, &stars.nbr, &stars.kind, stars.count, &mut out);
-    match written {
-        Written::Wrote(length) => {
-            io::write_all(1, b"wrote ");
-            io::print_decimal(1, length as u64);
-            show_bytes(b":", &out);
-        }
-        Written::TooShort => {
-            io::write_all(1, b"too short\n");
-        }
-    }
-    let mut short = [9u8; 14];
-    let refused = jobs::write_job(
+    let sizes = read.sizes;
+    let written = jobs::write_job(
         &stars.ends,
         &stars.nbr,
         &stars.kind,
         stars.count,
-        &mut short,
+        sizes.told,
+        &sizes.list,
+        out,
     );
-    match refused {
-        Written::Wrote(_) => {
-            io::write_all(1, b"wrote\n");
+    match written {
+        Written::Wrote(length) => {
+            io::write_all(1, b"wrote ");
+            io::print_decimal(1, length as u64);
+            show_bytes(b":", out);
         }
         Written::TooShort => {
-            show_bytes(b"14:", &short);
+            show_bytes(b"too short:", out);
         }
     }
+}
+
+// A job without and one with sizes, each written into a buffer with a byte too many, and into one with a byte too few.
+fn show_buffers<'a>(job: &'a [u8], sized: &'a [u8]) {
+    let mut long = [9u8; 16];
+    show_written(job, &mut long);
+    let mut sized_long = [9u8; 21];
+    show_written(sized, &mut sized_long);
+    let mut short = [9u8; 14];
+    show_written(job, &mut short);
+    let mut sized_short = [9u8; 19];
+    show_written(sized, &mut sized_short);
 }
 
 fn main() {
@@ -115,7 +119,38 @@ fn main() {
         b"not answered",
         b"\x01\x00\x01\x02\x02\x00\x08\x00\x00\x01\x01\x02\x02\x05\x03\x02\x00\x08\x00\x00\x01\x01\x02\x02\x03\x03",
     );
+    let sized = b"\x01\x00\x01\x01\x02\x00\x08\x00\x00\x01\x01\x02\x02\x03\x03\x07\x00\x02\x03\x02";
+    show(b"3 by 2", sized);
+    show(
+        b"1 by 1",
+        b"\x01\x00\x01\x01\x02\x00\x08\x00\x00\x01\x01\x02\x02\x03\x03\x07\x00\x02\x01\x01",
+    );
+    show(
+        b"16 by 2",
+        b"\x01\x00\x01\x01\x02\x00\x08\x00\x00\x01\x01\x02\x02\x03\x03\x07\x00\x02\x10\x02",
+    );
+    show(
+        b"3 by 0",
+        b"\x01\x00\x01\x01\x02\x00\x08\x00\x00\x01\x01\x02\x02\x03\x03\x07\x00\x02\x03\x00",
+    );
+    show(
+        b"1 by 15",
+        b"\x01\x00\x01\x01\x02\x00\x08\x00\x00\x01\x01\x02\x02\x03\x03\x07\x00\x02\x01\x0f",
+    );
+    show(
+        b"sizes of two rooms",
+        b"\x01\x00\x01\x01\x02\x00\x08\x00\x00\x01\x01\x02\x02\x03\x03\x07\x00\x04\x03\x02\x03\x02",
+    );
+    show(
+        b"a byte behind the sizes",
+        b"\x01\x00\x01\x01\x02\x00\x08\x00\x00\x01\x01\x02\x02\x03\x03\x07\x00\x02\x03\x02\x00",
+    );
+    show(
+        b"not answered, 1 by 1",
+        b"\x01\x00\x01\x02\x02\x00\x08\x00\x00\x01\x01\x02\x02\x05\x03\x02\x00\x08\x00\x00\x01\x01\x02\x02\x03\x03\x07\x00\x04\x01\x01\x01\x01",
+    );
     show_bytes(b"star of room 4:", jobs::raw_star(one, 4));
     show_bytes(b"star of room 5:", jobs::raw_star(one, 5));
-    show_written(one);
+    show_bytes(b"star of room 4, with sizes:", jobs::raw_star(sized, 4));
+    show_buffers(one, sized);
 }

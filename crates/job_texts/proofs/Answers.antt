@@ -10,16 +10,17 @@ use lib.ListN.{length, getD, drop, length-append}
 use lib.Seq.{sets, sets-eq}
 use Rattle.floor.specs.Lists.{all}
 use Rattle.floor.specs.Lists.Laws.{and-both}
-use Rattle.floor.specs.Jobs.{Job, test2, test3, Reading, fails, reads, passing, firstThree, readJob, writeJob}
-use Rattle.floor.specs.Jobs.Written.{read-test2, length-writeJob}
+use Rattle.floor.specs.Jobs.{SizedJob, sizedJob, test2, test3, test17, Reading, fails, reads, passing, firstThree, readJob, writeSized}
+use Rattle.floor.specs.Jobs.Written.{Counts, read-test2, read-counts, length-writeSized}
 use Rattle.floor.specs.Calls.{refusal, wrote, writes}
 use Rattle.floor.specs.Quoted.{plain}
 use Rattle.floor.specs.Texts.{decimal, line, refusedWord, tooLong}
-use Rattle.floor.specs.JobTexts.{sided, texted, textAnswer, textOf, jobText, TextRead, wrongLine, aJob, readText, jobAnswer, jobOf as textJob}
+use Rattle.floor.specs.JobTexts.{sided, texted, textAnswer, textOf, jobText, wrongLine, aJob, readText, jobAnswer, jobOf as textJob}
 use Rattle.floor.specs.JobTexts.Back.{bytesOnly, text-length}
 use Rattle.stars.specs.declared.Stars.{Stars}
-use Rattle.stars.specs.Held.{toAt, entryAt, cells, startOf, endOf, heldStar, starsIn, jobIn, jobOf, noStars, heldOf}
-use Rattle.stars.proofs.Back.{given-back}
+use Rattle.stars.specs.declared.Sizes.{Sizes as HeldSizes}
+use Rattle.stars.specs.Held.{toAt, entryAt, cells, startOf, endOf, heldStar, starsIn, jobIn, jobOf}
+use Rattle.stars.specs.Sized.{sizesIn, sizesOf}
 use Rattle.stars.proofs.Holding.{job-stars}
 use Rattle.jobs.specs.declared.Answer.the-variants.{Passed, Refused}
 use Rattle.jobs.specs.declared.Read.{Read}
@@ -33,8 +34,8 @@ use Rattle.letters.proofs.Numbers.{decimal-short}
 use Rattle.job_texts.specs.declared.Lack.{Lack}
 use Rattle.job_texts.specs.declared.Verdict.the-variants.{Right, Wrong}
 use Rattle.job_texts.specs.declared.Taken.{Taken}
-use Rattle.job_texts.specs.Reads.{lackOf, wrongAt, allHeld, finish, toldText, takenOf}
-use Rattle.job_texts.proofs.Limits.{Within, text-within}
+use Rattle.job_texts.specs.Reads.{lackOf, toldText, takenOf}
+use Rattle.job_texts.proofs.Limits.{TextWithin, text-within}
 use Rattle.job_texts.proofs.Telling.{line-short}
 
 -- a text that there is room for, put at the front of a page, under any name that it has
@@ -52,29 +53,29 @@ unfolding refusedWord line plain
 refusal-short k h = omega (arith, length-append (decimal k) (10 ∷ []), decimal-short 2 k (omega arith))
 
 -- the bytes of a held job: there is room for them, so they are written
-module _ (j : Job) (o x : List ℕ) (w : Written) (l : length (writeJob j) ≤ 8192) (k : length o ≡ 8192)
-    (p : (replied w ≡ writing (writeJob j) o .reply) × (x ≡ writing (writeJob j) o .buffer)) where
+module _ (j : SizedJob) (o x : List ℕ) (w : Written) (l : length (writeSized j) ≤ 8192) (k : length o ≡ 8192)
+    (p : (replied w ≡ writing (writeSized j) o .reply) × (x ≡ writing (writeSized j) o .buffer)) where
   -- the answer is how many they are, and the buffer has them in front of what stood behind
-  job-written : (replied w ≡ wrote (length (writeJob j))) × (x ≡ writeJob j ++ drop (length (writeJob j)) o)
+  job-written : (replied w ≡ wrote (length (writeSized j))) × (x ≡ writeSized j ++ drop (length (writeSized j)) o)
   unfolding writing writes
   job-written =
-      let z : leb (length (writeJob j)) (length o) ≡ true = le-leb (length (writeJob j)) (length o) (omega arith) in
+      let z : leb (length (writeSized j)) (length o) ≡ true = le-leb (length (writeSized j)) (length o) (omega arith) in
       rw z at p
 
   -- a length that is told is how many they are, and they are put at the front
-  pub bytes-put : (n : ℕ) → w ≡ Wrote n → (n ≡ length (writeJob j)) × (x ≡ sets o 0 (writeJob j)) × (n ≤ 8192)
+  pub bytes-put : (n : ℕ) → w ≡ Wrote n → (n ≡ length (writeSized j)) × (x ≡ sets o 0 (writeSized j)) × (n ≤ 8192)
   unfolding replied
   bytes-put n e =
-      let q : wrote n ≡ wrote (length (writeJob j)) = rw e at (job-written .0) in
-      let d : n ≡ length (writeJob j) = cc in
-      let z : 0 + length (writeJob j) ≡ length (writeJob j) = omega arith in
-      (d, job-written .1 ∙ sym (sets-eq (writeJob j) o 0 (omega arith) ∙ rw z), omega arith)
+      let q : wrote n ≡ wrote (length (writeSized j)) = rw e at (job-written .0) in
+      let d : n ≡ length (writeSized j) = cc in
+      let z : 0 + length (writeSized j) ≡ length (writeSized j) = omega arith in
+      (d, job-written .1 ∙ sym (sets-eq (writeSized j) o 0 (omega arith) ∙ rw z), omega arith)
 
   -- the buffer is never too short for them
   pub never-short : {X : Type 0} → w ≡ TooShort → X
   unfolding replied
   never-short {X} e =
-      let q : refusal 14 ≡ wrote (length (writeJob j)) = rw e at (job-written .0) in
+      let q : refusal 14 ≡ wrote (length (writeSized j)) = rw e at (job-written .0) in
       let z : _≡_ {A = ℕ} 0 1 = cc in
       absurd (omega arith)
 
@@ -91,35 +92,59 @@ stars-bytes zero i ends nbr kind = refl
 stars-bytes (suc m) i ends nbr kind =
     and-both _ _ (cells-bytes (endOf ends (length nbr) i - startOf ends (length nbr) i) (startOf ends (length nbr) i) nbr kind) (stars-bytes m (suc i) ends nbr kind)
 
--- a job that can be written, or refusal 4
-module _ (h : Stars) (b : Bool) (e : b ≡ sided (jobOf h)) where
+-- a job that can be written, or refusal 4 or 17
+module _ (h : Stars) (g : HeldSizes) (b : Bool) (e : b ≡ sided (jobOf h)) where
+  -- the job that is held
+  abbrev held : SizedJob
+  held = sizedJob (jobOf h) (sizesOf g)
+
   -- where some kind is no side: refusal 4
-  pub four-text : not b ≡ true → textAnswer (passing (sided (jobOf h)) 4 (reads (jobOf h))) ≡ refusedWord ++ line (4 ∷ [])
-  unfolding textAnswer passing
+  pub four-text : not b ≡ true → textAnswer (texted (reads held)) ≡ refusedWord ++ line (4 ∷ [])
+  unfolding textAnswer texted passing
   four-text t = rw (← e, not-true b t)
 
-  -- where every kind is a side: the text of the job
-  pub rooms-text : not b ≡ false → textAnswer (passing (sided (jobOf h)) 4 (reads (jobOf h))) ≡ jobText (jobOf h)
-  unfolding textAnswer passing
-  rooms-text t = rw (← e, not-false b t)
+  module _ (t : not b ≡ false) (c : Bool) (f : c ≡ test17 (sizesIn (g .told) (g .list))) where
+    -- test 17 of the sizes, by their list
+    same-test : c ≡ test17 (sizesOf g)
+    unfolding sizesOf
+    same-test = f
 
-  -- that text takes no more than 8,192 bytes, where the job passes tests 2 and 3
-  pub rooms-short : not b ≡ false → test2 (length (jobOf h)) ≡ true → test3 (jobOf h) ≡ true → length (jobText (jobOf h)) ≤ 8192
-  unfolding jobOf
-  rooms-short t p q = omega (arith, text-length (jobOf h) p q (sym e ∙ not-false b t) (stars-bytes (h .count) 0 (h .ends) (h .nbr) (h .kind)))
+    -- where the sizes do not pass: refusal 17
+    pub seventeen-text : not c ≡ true → textAnswer (texted (reads held)) ≡ refusedWord ++ line (17 ∷ [])
+    unfolding textAnswer texted passing
+    seventeen-text u = rw (← e, not-false b t, ← same-test, not-true c u)
+
+    -- where every kind is a side and the sizes pass: the text of the job
+    pub rooms-text : not c ≡ false → textAnswer (texted (reads held)) ≡ jobText held
+    unfolding textAnswer texted passing
+    rooms-text u = rw (← e, not-false b t, ← same-test, not-false c u)
+
+    -- that text takes no more than 8,192 bytes, where the job passes tests 2 and 3 and has as many sizes as rooms or none
+    pub rooms-short : not c ≡ false → test2 (length (jobOf h)) ≡ true → test3 (jobOf h) ≡ true → Counts (length (jobOf h)) (sizesOf g) → length (jobText held) ≤ 8192
+    rooms-short u p q n = omega (
+      arith,
+      text-length held (record {
+        pass2 = p;
+        pass3 = q;
+        sides = sym e ∙ not-false b t;
+        bytes = unfold jobOf in stars-bytes (h .count) 0 (h .ends) (h .nbr) (h .kind);
+        counts = n;
+        pass17 = sym same-test ∙ not-false c u;
+      }),
+    )
 
 -- what tests 1 to 3 come to
-no-reads : {X : Type 0} {k : ℕ} {j : Job} → reads j ≡ fails k → X
-no-reads {X} {k} {j} e = let z : _≡_ {A = ℕ} 0 1 = cc in absurd (omega arith)
+no-reads : {X : Type 0} {k : ℕ} {o : SizedJob} → reads o ≡ fails k → X
+no-reads {X} {k} {o} e = let z : _≡_ {A = ℕ} 0 1 = cc in absurd (omega arith)
 
 -- a job that comes out of test 3 was read, and passes it
-three-passed : (x : Reading) (j : Job) → firstThree x ≡ reads j → (x ≡ reads j) × (test3 j ≡ true)
+three-passed : (x : Reading SizedJob) (o : SizedJob) → firstThree x ≡ reads o → (x ≡ reads o) × (test3 (o .stars) ≡ true)
 unfolding firstThree passing
-three-passed (fails k) j e = no-reads (sym e)
-three-passed (reads i) j e = go (test3 i) refl e
+three-passed (fails k) o e = no-reads (sym e)
+three-passed (reads i) o e = go (test3 (i .stars)) refl e
   where
-    go : (b : Bool) → test3 i ≡ b → passing b 3 (reads i) ≡ reads j → (reads i ≡ reads j) × (test3 j ≡ true)
-    go true t e = let q : i ≡ j = cc in (e, rw q at t)
+    go : (b : Bool) → test3 (i .stars) ≡ b → passing b 3 (reads i) ≡ reads o → (reads i ≡ reads o) × (test3 (o .stars) ≡ true)
+    go true t e = let q : i ≡ o = cc in (e, rw q at t)
     go false t e = no-reads (sym e)
 
 -- what is printed for some bytes
@@ -130,26 +155,30 @@ module _ (bs : List ℕ) where
   long-text h = let z : leb (length bs) 8192 ≡ false = lt-leb (length bs) 8192 h in rw z
 
   module _ (q : Read) (t : Tells q (firstThree (readJob bs))) where
+    -- the job that the reading holds
+    abbrev kept : SizedJob
+    kept = sizedJob (jobOf (q .stars)) (sizesOf (q .sizes))
+
     -- where the reading passed, the job that is held is the one read past test 3
-    held-read : q .answer ≡ Passed → firstThree (readJob bs) ≡ reads (jobOf (q .stars))
+    held-read : q .answer ≡ Passed → firstThree (readJob bs) ≡ reads kept
     unfolding outcome said
     held-read d = sym (t .says) ∙ rw d
 
-    -- where the reading passed, the job that is held passes tests 2 and 3
-    pub held-passes : q .answer ≡ Passed → (test2 (length (jobOf (q .stars))) ≡ true) × (test3 (jobOf (q .stars)) ≡ true)
+    -- where the reading passed, the job that is held passes tests 2 and 3, and has as many sizes as rooms or none
+    pub held-passes : q .answer ≡ Passed
+        → (test2 (length (jobOf (q .stars))) ≡ true) × (test3 (jobOf (q .stars)) ≡ true) × Counts (length (jobOf (q .stars))) (sizesOf (q .sizes))
     held-passes d =
-        let (r, t3) = three-passed (readJob bs) (jobOf (q .stars)) (held-read d) in
-        (read-test2 bs (jobOf (q .stars)) r, t3)
+        let (r, t3) = three-passed (readJob bs) kept (held-read d) in
+        (read-test2 bs kept r, t3, read-counts bs kept r)
 
     module _ (l : length bs ≤ 8192) where
-      -- up to 8,192 bytes give the text of what passes tests 1 to 3 and has sides as its kinds, or the refusal
+      -- up to 8,192 bytes give the text of what passes tests 1 to 3 and 17 and has sides as its kinds, or the refusal
       short-text : textOf bs ≡ textAnswer (texted (firstThree (readJob bs)))
       unfolding textOf
       short-text = let z : leb (length bs) 8192 ≡ true = le-leb (length bs) 8192 l in rw z
 
-      -- where the reading passed, what is printed is the text of the job that is held, or refusal 4
-      pub passed-text : q .answer ≡ Passed → textOf bs ≡ textAnswer (passing (sided (jobOf (q .stars))) 4 (reads (jobOf (q .stars))))
-      unfolding texted
+      -- where the reading passed, what is printed is the text of the job that is held, or its refusal
+      pub passed-text : q .answer ≡ Passed → textOf bs ≡ textAnswer (texted (reads kept))
       passed-text d = rw (short-text, held-read d)
 
       -- where the reading was refused, that refusal is printed
@@ -171,50 +200,37 @@ module _ (t : List ℕ) where
   unfolding textJob
   short-job l = let z : leb (length t) 16384 ≡ true = le-leb (length t) 16384 l in rw z
 
-  module _ (q : Taken) (e : takenOf q ≡ finish noStars 0 (readText t)) where
+  module _ (q : Taken) (e : takenOf q ≡ readText t) where
     -- where the code tells of a wrong line, the text is wrong in that line, for that lack
     read-wrong : (x : Lack) → q .verdict ≡ Wrong x → readText t ≡ wrongLine (q .line) (lackOf x)
-    unfolding takenOf toldText finish
-    read-wrong x d = go (readText t) (sym (rw d at e))
-      where
-        go : (r : TextRead) → finish noStars 0 r ≡ wrongAt (q .line) (lackOf x) → r ≡ wrongLine (q .line) (lackOf x)
-        go (wrongLine k y) f = let a : k ≡ q .line = cc in let b : y ≡ lackOf x = cc in rw (a, b)
-        go (aJob j) f = let z : _≡_ {A = ℕ} 0 1 = cc in absurd (omega arith)
-
-    -- where the code tells of none, the text is read as the job that the stars hold
-    read-right : q .verdict ≡ Right → readText t ≡ aJob (jobOf (q .stars))
-    unfolding takenOf toldText finish heldOf
-    read-right d = go (readText t) (text-within t) (sym (rw d at e))
-      where
-        go : (r : TextRead) → Within (length t + 1) 4 360 r → finish noStars 0 r ≡ allHeld (q .stars) → r ≡ aJob (jobOf (q .stars))
-        go (wrongLine k y) w f = let z : _≡_ {A = ℕ} 0 1 = cc in absurd (omega arith)
-        go (aJob j) w f =
-            let g : heldOf j ≡ q .stars = cc in
-            rw (← g, given-back j (omega (arith, w .0)) (w .1) (w .2))
+    unfolding takenOf toldText
+    read-wrong x d = sym (rw d at e)
 
     -- what is told of a wrong line takes no more than 8,192 bytes
     pub wrong-short : (x : Lack) → q .verdict ≡ Wrong x → length t ≤ 16384 → length (jobAnswer (wrongLine (q .line) (lackOf x))) ≤ 8192
     wrong-short x d l =
-        let w : Within (length t + 1) 4 360 (wrongLine (q .line) (lackOf x)) = rw (read-wrong x d) at (text-within t) in
+        let w : TextWithin (length t + 1) (wrongLine (q .line) (lackOf x)) = rw (read-wrong x d) at (text-within t) in
         omega (arith, line-short (q .line) (lackOf x) (omega (arith, w .0)) (omega (arith, w .1)))
 
     -- the held job, by its slices
-    abbrev job : Job
-    job = jobIn (q .stars .count) (q .stars .ends) (q .stars .nbr) (q .stars .kind)
+    abbrev job : SizedJob
+    job = sizedJob (jobIn (q .rooms .stars .count) (q .rooms .stars .ends) (q .rooms .stars .nbr) (q .rooms .stars .kind)) (sizesIn (q .told) (q .rooms .list))
 
-    read-job : q .verdict ≡ Right → readText t ≡ aJob job
-    read-job d = rw (job-stars (q .stars) (q .stars .count) refl) (read-right d)
+    -- where the code tells of no wrong line, the text is read as that job
+    read-right : q .verdict ≡ Right → readText t ≡ aJob job
+    unfolding takenOf toldText
+    read-right d = rw (job-stars (q .rooms .stars) (q .rooms .stars .count) refl) (sym (rw d at e))
 
     -- the bytes of a job read from a text are no more than 8,192
-    pub right-small : q .verdict ≡ Right → length (writeJob job) ≤ 8192
+    pub right-small : q .verdict ≡ Right → length (writeSized job) ≤ 8192
     right-small d =
-        let w : Within (length t + 1) 4 360 (aJob job) = rw (read-job d) at (text-within t) in
-        omega (arith, length-writeJob job, w .0, w .1)
+        let w : TextWithin (length t + 1) (aJob job) = rw (read-right d) at (text-within t) in
+        omega (arith, length-writeSized job (w .2), w .0, w .1)
 
-    -- where the code tells of no wrong line, the bytes of the job that the stars hold are printed
-    pub right-job : length t ≤ 16384 → q .verdict ≡ Right → textJob t ≡ writeJob job
+    -- where the code tells of no wrong line, the bytes of that job are printed
+    pub right-job : length t ≤ 16384 → q .verdict ≡ Right → textJob t ≡ writeSized job
     unfolding jobAnswer
-    right-job l d = rw (short-job l, read-job d)
+    right-job l d = rw (short-job l, read-right d)
 
     -- where the code tells of a wrong line, that line and what it lacks are printed
     pub wrong-job : length t ≤ 16384 → (x : Lack) → q .verdict ≡ Wrong x → textJob t ≡ jobAnswer (wrongLine (q .line) (lackOf x))

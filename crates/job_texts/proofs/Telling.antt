@@ -6,7 +6,7 @@ use native.Mathlib.Omega.{arith}
 use lib.ListN.{length, length-append}
 use Rattle.floor.specs.Quoted.{plain}
 use Rattle.floor.specs.Texts.{decimal}
-use Rattle.floor.specs.JobTexts.{Expected, roomNumber, colon, side, neighbour, comma, noRoom, noContact, wrongLine, expectedText, jobAnswer}
+use Rattle.floor.specs.JobTexts.{Expected, roomNumber, colon, side, neighbour, comma, leastSize, noRoom, noContact, wrongLine, expectedText, jobAnswer}
 use Rattle.letters.specs.Puts.{Puts}
 use Rattle.letters.proofs.Rows.{both-puts}
 use Rattle.letters.proofs.Numbers.{decimal-short}
@@ -30,19 +30,20 @@ pub line-told : (n : ℕ) (x : Expected) {o p q s t u : List ℕ} {a b c d r : �
 unfolding jobAnswer plain
 line-told n x e f g h k = both-puts _ _ _ _ _ _ _ _ e (both-puts _ _ _ _ _ _ _ _ f (both-puts _ _ _ _ _ _ _ _ g (both-puts _ _ _ _ _ _ _ _ h k)))
 
--- no line takes more than 62 bytes
-lack-short : (x : Expected) → numberIn x < 100000 → length (expectedText x) ≤ 40
+-- what is lacking takes no more than 60 bytes
+lack-short : (x : Expected) → numberIn x < 100000 → length (expectedText x) ≤ 60
 unfolding numberIn expectedText plain
 lack-short (roomNumber r) h = omega (arith, length-append (plain "the number of room ") (decimal r), decimal-short 4 r h)
 lack-short colon h = omega arith
 lack-short side h = omega arith
 lack-short neighbour h = omega arith
 lack-short comma h = omega arith
+lack-short leastSize h = omega arith
 lack-short noRoom h = omega arith
 lack-short noContact h = omega arith
 
--- a wrong line told takes no more than 62 bytes, where the numbers in it are below 100,000
-pub line-short : (n : ℕ) (x : Expected) → n < 100000 → numberIn x < 100000 → length (jobAnswer (wrongLine n x)) ≤ 62
+-- a wrong line told takes no more than 82 bytes, where the numbers in it are below 100,000
+pub line-short : (n : ℕ) (x : Expected) → n < 100000 → numberIn x < 100000 → length (jobAnswer (wrongLine n x)) ≤ 82
 unfolding jobAnswer plain
 line-short n x l h =
     omega (

@@ -1,13 +1,15 @@
-// The contacts of a line, read one by one and held behind the stars that are held already.
+// The contacts of a line, read one by one and held behind the stars that are held already, and the least size behind them.
 ghost use mathlib.Core.Path.{_≡_};
 ghost use Prim.Native.Nat.{_-_, _≤_, _<_};
 ghost use lib.ListN.{drop};
-ghost use Rattle.floor.specs.JobTexts.{contacts};
+ghost use Rattle.floor.specs.JobTexts.{sizeAt, contacts};
 ghost use Rattle.job_texts.specs.Reads.{pieceOf, pieceIn, putEntry, putContacts, rowOf};
 use crate::Contact;
 use crate::Lack;
+use crate::Measure;
 use crate::Row;
 use crate::Verdict;
+use crate::sizes;
 use crate::values;
 use crate::words;
 use stars::Stars;
@@ -48,21 +50,37 @@ pub fn wrong(lack: Lack, next: usize, stars: Stars) -> Row
         verdict: Verdict::Wrong(lack),
         next,
         stars,
+        wide: 1,
+        tall: 1,
     }
 }
 
-// A line that is right, and the stars with its entries.
-pub fn right(next: usize, stars: Stars) -> Row
-    ensures { λ r. ⌜ (r .verdict ≡ Verdict.Right) × (r .next ≡ next) × (r .stars ≡ stars) ⌝ }
+// Contacts that are right, the stars with their entries, and a least size.
+pub fn right(next: usize, stars: Stars, wide: u8, tall: u8) -> Row
+    ensures { λ r. ⌜ (r .verdict ≡ Verdict.Right) × (r .next ≡ next) × (r .stars ≡ stars) × (r .wide ≡ wide) × (r .tall ≡ tall) ⌝ }
 {
     Row {
         verdict: Verdict::Right,
         next,
         stars,
+        wide,
+        tall,
     }
 }
 
-// The contacts of a line from a place on, held from place m on.
+// A least size behind `at`, with which the contacts end, beside the stars as they are put.
+fn sized(line: &[u8], at: usize, held: Stars, m: usize) -> Row
+    requires { ⌜ m ≤ 360 ⌝ }
+    ensures { λ r. ⌜ (rowOf r ≡ putContacts held m (sizeAt (drop at (now (line .entry))))) × (r .next ≤ 360) × (r .stars .count ≡ held .count) ⌝ }
+{
+    let measure = sizes::size_at(line, at);
+    match measure {
+        Measure::Unsaid => wrong(Lack::LeastSize, m, held),
+        Measure::Said(wide, tall) => right(m, held, wide, tall),
+    }
+}
+
+// The contacts of a line from a place on, held from place m on, and the least size behind them.
 pub fn hold_contacts(line: &[u8], from: usize, held: Stars, m: usize) -> Row
     requires { ⌜ m ≤ 360 ⌝ }
     ensures { λ r. ⌜ (rowOf r ≡ putContacts held m (contacts (360 - m) (drop from (now (line .entry))))) × (r .next ≤ 360) × (r .stars .count ≡ held .count) ⌝ }
@@ -70,7 +88,13 @@ pub fn hold_contacts(line: &[u8], from: usize, held: Stars, m: usize) -> Row
     let mut more = held;
     let mut k = m;
     let mut at = from;
-    while k < 360 {
+    loop {
+        if sizes::begins(line, at) {
+            return sized(line, words::next_at(line, at), more, k);
+        }
+        if 360 <= k {
+            return wrong(Lack::NoContact, k, more);
+        }
         let contact = contact_at(line, at);
         match contact {
             Contact::Lacks(lack) => {
@@ -81,7 +105,7 @@ pub fn hold_contacts(line: &[u8], from: usize, held: Stars, m: usize) -> Row
                 more = longer;
                 k += 1;
                 if line.len() <= next {
-                    return right(k, more);
+                    return right(k, more, 1, 1);
                 }
                 if line[next] != b',' {
                     return wrong(Lack::Comma, k, more);
@@ -90,5 +114,4 @@ pub fn hold_contacts(line: &[u8], from: usize, held: Stars, m: usize) -> Row
             }
         }
     }
-    wrong(Lack::NoContact, k, more)
 }

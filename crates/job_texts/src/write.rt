@@ -1,15 +1,19 @@
-// A held job, written as text into a lent buffer, as far as it reaches: contacts, a room's line, and all the lines.
+// A held job, written as text into a lent buffer, as far as it reaches: contacts, a least size, a room's line, and all the lines.
 ghost use mathlib.Core.Path.{_≡_};
 ghost use mathlib.Core.Bool.{true};
-ghost use Prim.Native.Nat.{_+_, _-_, _≤_, _<_};
+ghost use mathlib.Core.List.{List};
+ghost use Prim.Native.Nat.{ℕ, _+_, _-_, _≤_, _<_};
 ghost use lib.ListN.{length};
 ghost use lib.Seq.{sets};
-ghost use Rattle.floor.specs.Jobs.{test2, test3, reads, passing};
-ghost use Rattle.floor.specs.JobTexts.{vertexWord, contactText, contactsText, roomText, jobText, sided, textAnswer};
+ghost use Rattle.floor.specs.Jobs.{sizedJob, sizeOf, test2, test3, reads};
+ghost use Rattle.floor.specs.Jobs.Written.{Counts};
+ghost use Rattle.floor.specs.JobTexts.{vertexWord, contactText, contactsText, sizeText, sizeBehind, roomText, jobText, texted, textAnswer};
 ghost use Rattle.stars.specs.Pairs.{pair};
 ghost use Rattle.stars.specs.Held.{cells, heldStar, jobOf};
+ghost use Rattle.stars.specs.Sized.{size, sizesIn, sizesOf};
 ghost use Rattle.letters.specs.Puts.{Puts};
 ghost use Rattle.job_texts.specs.Writes.{sideText, moreText};
+use stars::Sizes;
 use stars::Stars;
 
 const FRAME: [u8; 4] = [b'N', b'W', b'S', b'E'];
@@ -94,6 +98,30 @@ fn put_contacts<'a>(
     put_more(out, next, nbr, kind, from + 1, end)
 }
 
+// A least size, width by height.
+fn put_size(out: &mut [u8], at: usize, wide: u8, tall: u8) -> usize
+    ensures { λ r. ⌜ Puts (now (out .entry)) at (sizeText (size wide tall)) (now (out .exit)) r ⌝ }
+{
+    let first = letters::word::put_word(out, at, b" at least ");
+    let second = letters::number::put_decimal(out, first, fields::wide(wide));
+    let third = letters::word::put_word(out, second, b" by ");
+    letters::number::put_decimal(out, third, fields::wide(tall))
+}
+
+// A least size behind the contacts from a place to an end, left out where it is 1 by 1.
+fn put_behind(out: &mut [u8], at: usize, from: usize, end: usize, wide: u8, tall: u8) -> usize
+    ensures { λ r. ⌜ ((nbr kind : List ℕ) → Puts (now (out .entry)) at (sizeBehind (cells (end - from) from nbr kind) (size wide tall)) (now (out .exit)) r) ⌝ }
+{
+    if !stars::least::is_larger(wide, tall) {
+        return at;
+    }
+    if end <= from {
+        return put_size(out, at, wide, tall);
+    }
+    let next = letters::word::put_byte(out, at, b',');
+    put_size(out, next, wide, tall)
+}
+
 // The line of a room.
 fn put_room<'a>(
     out: &mut [u8],
@@ -101,40 +129,59 @@ fn put_room<'a>(
     ends: &'a [u16],
     nbr: &'a [u16],
     kind: &'a [u8],
+    told: u8,
+    sizes: &'a [u8],
     i: usize,
 ) -> usize
     requires { ⌜ i < 256 ⌝ }
-    ensures { λ r. ⌜ Puts (now (out .entry)) at (roomText (4 + i) (heldStar (now (ends .entry)) (now (nbr .entry)) (now (kind .entry)) i)) (now (out .exit)) r ⌝ }
+    ensures { λ r. ⌜ Puts (now (out .entry)) at
+        (roomText (4 + i) (heldStar (now (ends .entry)) (now (nbr .entry)) (now (kind .entry)) i) (sizeOf (sizesIn told (now (sizes .entry))) (4 + i)))
+        (now (out .exit)) r ⌝ }
 {
     let from = stars::held::start_of(ends, nbr.len(), i);
     let end = stars::held::end_of(ends, nbr.len(), i);
+    let wide = stars::least::width_of(told, sizes, i);
+    let tall = stars::least::height_of(told, sizes, i);
     let first = letters::line::put_then(out, at, 4 + i, b':');
     let next = put_contacts(out, first, nbr, kind, from, end);
-    letters::word::put_byte(out, next, b'\n')
+    let last = put_behind(out, next, from, end, wide, tall);
+    letters::word::put_byte(out, last, b'\n')
 }
 
 // The lines of all rooms, at the front.
-fn put_rooms(stars: Stars, out: &mut [u8]) -> usize
-    ensures { λ r. ⌜ Puts (now (out .entry)) 0 (jobText (jobOf stars)) (now (out .exit)) r ⌝ }
+fn put_rooms(stars: Stars, sizes: Sizes, out: &mut [u8]) -> usize
+    ensures { λ r. ⌜ Puts (now (out .entry)) 0 (jobText (sizedJob (jobOf stars) (sizesOf sizes))) (now (out .exit)) r ⌝ }
 {
     let count = fields::wide(stars.count);
     let mut next: usize = 0;
     let mut i: usize = 0;
     while i < count {
-        next = put_room(out, next, &stars.ends, &stars.nbr, &stars.kind, i);
+        next = put_room(
+            out,
+            next,
+            &stars.ends,
+            &stars.nbr,
+            &stars.kind,
+            sizes.told,
+            &sizes.list,
+            i,
+        );
         i += 1;
     }
     next
 }
 
-// The text of a held job, or refusal 4 where a kind is no side.
-pub fn put_job(stars: Stars, out: &mut [u8; 8192]) -> usize
-    requires { ⌜ (test2 (length (jobOf stars)) ≡ true) × (test3 (jobOf stars) ≡ true) ⌝ }
-    ensures { λ r. ⌜ (r ≡ length (textAnswer (passing (sided (jobOf stars)) 4 (reads (jobOf stars)))))
-        × (now (out .exit) ≡ sets (now (out .entry)) 0 (textAnswer (passing (sided (jobOf stars)) 4 (reads (jobOf stars))))) × (r ≤ 8192) ⌝ }
+// The text of a held job; or refusal 4 where a kind is no side, or 17 where the sizes do not pass.
+pub fn put_job(stars: Stars, sizes: Sizes, out: &mut [u8; 8192]) -> usize
+    requires { ⌜ (test2 (length (jobOf stars)) ≡ true) × (test3 (jobOf stars) ≡ true) × Counts (length (jobOf stars)) (sizesOf sizes) ⌝ }
+    ensures { λ r. ⌜ (r ≡ length (textAnswer (texted (reads (sizedJob (jobOf stars) (sizesOf sizes))))))
+        × (now (out .exit) ≡ sets (now (out .entry)) 0 (textAnswer (texted (reads (sizedJob (jobOf stars) (sizesOf sizes)))))) × (r ≤ 8192) ⌝ }
 {
     if !crate::sided::all_sided(stars) {
         return letters::line::put_refusal(out, 0, 4);
     }
-    put_rooms(stars, out)
+    if !stars::least::sizes_pass(sizes.told, &sizes.list) {
+        return letters::line::put_refusal(out, 0, 17);
+    }
+    put_rooms(stars, sizes, out)
 }

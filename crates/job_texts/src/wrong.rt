@@ -16,9 +16,14 @@ fn put_lack(out: &mut [u8], at: usize, lack: Lack) -> usize
             number::put_decimal(out, next, room)
         }
         Lack::Colon => word::put_word(out, at, b"a colon behind the room's number"),
-        Lack::Side => word::put_word(out, at, b"above, left, below or right"),
+        Lack::Side => word::put_word(out, at, b"above, left, below, right or at least"),
         Lack::Neighbour => word::put_word(out, at, b"N, W, S, E or a number up to 255"),
         Lack::Comma => word::put_word(out, at, b"a comma, or the end of the line"),
+        Lack::LeastSize => word::put_word(
+            out,
+            at,
+            b"a least size, as at least 3 by 2, and the end of the line",
+        ),
         Lack::NoRoom => word::put_word(out, at, b"no more than 60 rooms"),
         Lack::NoContact => word::put_word(out, at, b"no more than 360 contacts"),
     }

@@ -1,18 +1,21 @@
--- The stars put one behind the other, as the code comes by them. Assumes nothing.
+-- The stars and the sizes put one behind the other, as the code comes by them. Assumes nothing.
 use Prim.Native.Nat.{ℕ, suc, _+_, _-_, _*_, _/_, _<_, _≤_}
 use mathlib.Core.Path.{_≡_}
 use mathlib.Core.List.{List, map}
 use native.Mathlib.Omega.{arith}
-use lib.ListN.{length, drop, set, length-replicate}
+use lib.ListN.{length, getD, drop, set, length-replicate}
 use lib.Seq.{sets}
 use Rattle.floor.specs.Lists.{sum}
 use Rattle.floor.specs.Fields.{readField, valueOf, restOf}
-use Rattle.floor.specs.Jobs.{Entry, pairsIn, entries}
+use Rattle.floor.specs.Jobs.{Entry, pairsIn, entries, sizePairs, sizeBytes}
 use Rattle.stars.specs.declared.Stars.{Stars}
+use Rattle.stars.specs.declared.Sizes.{Sizes as HeldSizes}
 use Rattle.stars.specs.Held.{toOf, kindOf, noStars, putStar, putAll, heldOf}
+use Rattle.stars.specs.Sized.{noSizes, heldSizes}
 use Rattle.stars.specs.Pairs.{here}
 use Rattle.stars.proofs.Entries.{entries-more, entries-done}
-use Rattle.jobs.specs.Shapes.{starsAt}
+use Rattle.stars.proofs.Sized.{pairs-more, pairs-done, pairs-length}
+use Rattle.jobs.specs.Shapes.{starsAt, sizesAt}
 use Rattle.jobs.proofs.Outlines.{entries-length}
 use Rattle.jobs.proofs.Walks.{next-star, no-star, behind}
 
@@ -98,3 +101,39 @@ unfolding putAll
 hold-done s n c i at m ends nbr kind w e l k inv =
     let z : n ≡ i = omega arith in
     rw z (rw (no-star s c i at l) at inv)
+
+-- the sizes, put one by one: what is left to put, put, gives the whole
+module _ (s a w : List ℕ) (i : ℕ) where
+  -- the next width and height put, those behind them are left
+  pub sizes-more : sets a (2 * i) (sizeBytes (sizePairs (drop (2 * i) s))) ≡ w → i < length s / 2
+      → sets (set (set a (2 * i) (getD s (2 * i) 0)) (2 * i + 1) (getD s (2 * i + 1) 0)) (2 * (i + 1)) (sizeBytes (sizePairs (drop (2 * (i + 1)) s))) ≡ w
+  unfolding sizeBytes
+  sizes-more inv h =
+      let e₁ : 2 * (i + 1) ≡ suc (suc (2 * i)) = omega arith in
+      let e₂ : 2 * i + 2 ≡ suc (suc (2 * i)) = omega arith in
+      let e₃ : 2 * i + 1 ≡ suc (2 * i) = omega arith in
+      rw (e₁, e₃) (rw (pairs-more s (2 * i) (omega arith), e₂, e₃) at inv)
+
+  -- behind the last size nothing is left to put
+  pub sizes-done : sets a (2 * i) (sizeBytes (sizePairs (drop (2 * i) s))) ≡ w → length s / 2 ≤ i → a ≡ w
+  unfolding sizeBytes
+  sizes-done inv h = rw (pairs-done s (2 * i) (omega arith)) at inv
+
+-- the sizes of the field at a place
+module _ (s v : List ℕ) (at : ℕ) (e : v ≡ valueOf (readField (drop at s))) (h : length (sizesAt (drop at s)) ≤ 60) where
+  -- there are no more than 60
+  pub sizes-few : length v / 2 ≤ 60
+  unfolding sizesAt
+  sizes-few = omega (arith, pairs-length v, rw (← e) at h)
+
+  module _ (a : HeldSizes) (ea : a ≡ noSizes) where
+    -- there is room for them where none are held
+    pub sizes-room : 2 * (length v / 2) ≤ length (a .list)
+    unfolding noSizes
+    sizes-room = rw ea (omega (arith, sizes-few, length-replicate {A = ℕ} 120 0))
+
+    -- their number and their widths and heights, put there, hold them
+    pub sizes-held : (l : List ℕ) → l ≡ sets (a .list) 0 (sizeBytes (sizePairs v))
+        → _≡_ {A = HeldSizes} (record { told = length v / 2; list = l }) (heldSizes (sizesAt (drop at s)))
+    unfolding noSizes heldSizes sizesAt
+    sizes-held l el = rw (← e, pairs-length v) (rw (el, ea))

@@ -1,19 +1,19 @@
--- The held stars, written field by field, as the code comes by them. Assumes nothing.
-use Prim.Native.Nat.{ℕ, suc, _+_, _-_, _*_, _<_, _≤_}
+-- The held stars and sizes, written field by field, as the code comes by them. Assumes nothing.
+use Prim.Native.Nat.{ℕ, zero, suc, _+_, _-_, _*_, _<_, _≤_}
 use mathlib.Core.Path.{_≡_, refl, sym, _∙_}
 use mathlib.Core.List.{List, [], _∷_, _++_}
 use native.Mathlib.Omega.{arith}
 use borrow.Author.Tests.{le-leb}
-use lib.Dec.{leb}
 use lib.ListN.{length, getD, set, length-append}
 use lib.Seq.{sets}
 use Rattle.floor.specs.Fields.{writeField}
-use Rattle.floor.specs.Jobs.{starBytes, writeStars, writeJob}
-use Rattle.floor.specs.Jobs.Written.{length-starBytes}
-use Rattle.floor.specs.Calls.{writes}
+use Rattle.floor.specs.Jobs.{sizedJob, starBytes, writeStars, writeJob, sizeBytes, writeSizes, writeSized}
+use Rattle.floor.specs.Jobs.Written.{length-starBytes, length-sizeBytes}
 use Rattle.fields.specs.Found.{withHead}
 use Rattle.stars.specs.Held.{toAt, entryAt, cells, startOf, endOf, heldStar, starsIn, jobIn}
+use Rattle.stars.specs.Sized.{sizeAt, sizesFrom, sizesIn}
 use Rattle.stars.proofs.Holding.{length-stars, length-cells, held-more, held-done}
+use Rattle.stars.proofs.Sized.{sizes-more, sizes-done, length-sizes}
 use Rattle.fields.specs.declared.Written.the-variants.{Wrote, TooShort}
 use Rattle.fields.specs.Writes.{replied, writing}
 use Rattle.fields.proofs.Puts.{sets-append, short-writes, front-writes}
@@ -149,20 +149,98 @@ module _ (n : ℕ) (ends nbr kind : List ℕ) where
       let z : n - 0 ≡ n = omega arith in
       (refl, rw z k, rw z)
 
-  module _ (m : ℕ) (em : m ≡ n) (o : List ℕ) (l : ℕ) (e : l ≡ length (writeJob (jobIn m ends nbr kind))) where
-    -- the length that was counted is that of the job's bytes
-    is-length : l ≡ length bytes
-    is-length = rw em at e
+-- the sizes, written one by one: what is left to put, put, gives the whole
+module _ (o w sizes : List ℕ) (at m i : ℕ) where
+  -- the next width and height put, those behind them are left
+  pub list-more : (x y : ℕ) → sets o (at + 2 * i) (sizeBytes (sizesFrom (m - i) i sizes)) ≡ w → i < m → x ≡ getD sizes (2 * i) 0
+      → y ≡ getD sizes (2 * i + 1) 0
+      → sets (set (set o (at + 2 * i) x) (at + 2 * i + 1) y) (at + 2 * (i + 1)) (sizeBytes (sizesFrom (m - (i + 1)) (i + 1) sizes)) ≡ w
+  unfolding sizeBytes sizeAt
+  list-more x y inv h ex ey =
+      let e₂ : at + 2 * i + 1 ≡ suc (at + 2 * i) = omega arith in
+      let e₃ : at + 2 * (i + 1) ≡ suc (suc (at + 2 * i)) = omega arith in
+      rw (e₂, e₃, ex, ey) (rw (sizes-more sizes m i h) at inv)
+
+  -- behind the last size nothing is left to put
+  pub list-done : sets o (at + 2 * i) (sizeBytes (sizesFrom (m - i) i sizes)) ≡ w → m ≤ i → o ≡ w
+  unfolding sizeBytes
+  list-done inv h = rw (sizes-done sizes m i h) at inv
+
+-- the field of the sizes
+module _ (sizes : List ℕ) (n : ℕ) where
+  -- where none are told, none is written
+  none-written : n ≡ 0 → writeSizes (sizesIn n sizes) ≡ []
+  unfolding writeSizes sizesFrom
+  none-written e = rw e
+
+  -- it takes no bytes then
+  pub none-length : n ≡ 0 → 0 ≡ length (writeSizes (sizesIn n sizes))
+  none-length e = rw (none-written e)
+
+  -- and leaves a buffer as it is
+  pub none-put : (o : List ℕ) (at : ℕ) → n ≡ 0 → o ≡ sets o at (writeSizes (sizesIn n sizes))
+  none-put o at e = rw (none-written e)
+
+  -- else it is a field of tag 7
+  some-written : (n ≡ 0 → ⊥) → writeSizes (sizesIn n sizes) ≡ writeField 7 (sizeBytes (sizesIn n sizes))
+  some-written h = go n h
+    where
+      go : (n : ℕ) → (n ≡ 0 → ⊥) → writeSizes (sizesIn n sizes) ≡ writeField 7 (sizeBytes (sizesIn n sizes))
+      go zero h = absurd (h refl)
+      go (suc n) h = unfold sizesFrom writeSizes in refl
+
+  -- two bytes for each size
+  list-length : length (sizeBytes (sizesIn n sizes)) ≡ 2 * n
+  list-length = omega (arith, length-sizeBytes (sizesIn n sizes), length-sizes n 0 sizes)
+
+  module _ (h : n ≡ 0 → ⊥) (m : ℕ) (em : m ≡ n) where
+    -- three bytes for the head, and two for each size
+    pub some-length : 3 + 2 * m ≡ length (writeSizes (sizesIn n sizes))
+    unfolding writeField
+    some-length = rw (some-written h) (omega (arith, list-length))
+
+    -- where the field fits, its head and its list do
+    pub some-room : (at l k : ℕ) → k ≡ l → at + length (writeSizes (sizesIn n sizes)) ≤ l → at + 3 + 2 * m ≤ k
+    some-room at l k q r = omega (arith, some-length)
+
+    -- a head of tag 7, then the sizes, are the field put at its place
+    pub some-put : (o y x : List ℕ) (at : ℕ) → at + length (writeSizes (sizesIn n sizes)) ≤ length o → y ≡ withHead o at 7 (2 * m)
+        → x ≡ sets y (at + 3) (sizeBytes (sizesIn m sizes)) → x ≡ sets o at (writeSizes (sizesIn n sizes))
+    unfolding writeField withHead
+    some-put o y x at room ey ex =
+        let r : at + 3 ≤ length o = omega (arith, some-length) in
+        let e₃ : at + 3 ≡ suc (suc (suc at)) = omega arith in
+        rw (some-written h, list-length) (ex ∙ rw (ey, le-leb (at + 3) (length o) r, e₃, em))
+
+-- the whole job with its sizes
+module _ (n : ℕ) (ends nbr kind : List ℕ) (t : ℕ) (sizes : List ℕ) where
+  -- its bytes
+  abbrev sizedBytes : List ℕ
+  sizedBytes = writeSized (sizedJob (jobIn n ends nbr kind) (sizesIn t sizes))
+
+  module _ (m : ℕ) (em : m ≡ n) (o : List ℕ) (b c : ℕ) (eb : b ≡ length (writeJob (jobIn m ends nbr kind)))
+      (ec : c ≡ length (writeSizes (sizesIn t sizes))) where
+    -- the length of the stars that was counted is that of the job without its sizes
+    is-behind : b ≡ length (bytes n ends nbr kind)
+    is-behind = rw em at eb
+
+    -- with that of the sizes it is that of the job's bytes
+    is-length : b + c ≡ length sizedBytes
+    unfolding writeSized
+    is-length = omega (arith, is-behind, length-append (bytes n ends nbr kind) (writeSizes (sizesIn t sizes)))
 
     -- too short a buffer: refused, and the buffer as it was
-    pub write-short : length o < l → (replied TooShort ≡ writing bytes o .reply) × (o ≡ writing bytes o .buffer)
-    write-short k = short-writes bytes o (omega (arith, is-length))
+    pub write-short : length o < b + c → (replied TooShort ≡ writing sizedBytes o .reply) × (o ≡ writing sizedBytes o .buffer)
+    write-short k = short-writes sizedBytes o (omega (arith, is-length))
 
     -- a buffer with room: the length is told, and the front filled
-    pub write-done : (x y : List ℕ) → y ≡ withHead o 0 1 1 → x ≡ sets (set y 3 n) 4 (writeStars (jobIn m ends nbr kind)) → l ≤ length o
-        → (replied (Wrote l) ≡ writing bytes o .reply) × (x ≡ writing bytes o .buffer)
-    unfolding withHead
-    write-done x y ey ex k =
-        let r : 0 + 3 ≤ length o = omega (arith, is-length, length-job) in
-        let f : x ≡ sets o 0 bytes = ex ∙ rw (ey, le-leb (0 + 3) (length o) r, em, job-bytes) in
-        front-writes bytes o x l is-length f (omega (arith, is-length))
+    pub write-done : (x y v : List ℕ) → y ≡ withHead o 0 1 1 → v ≡ sets (set y 3 n) 4 (writeStars (jobIn m ends nbr kind))
+        → x ≡ sets v b (writeSizes (sizesIn t sizes)) → b + c ≤ length o
+        → (replied (Wrote (b + c)) ≡ writing sizedBytes o .reply) × (x ≡ writing sizedBytes o .buffer)
+    unfolding withHead writeSized
+    write-done x y v ey ev ex k =
+        let r : 0 + 3 ≤ length o = omega (arith, is-behind, length-job n ends nbr kind) in
+        let z : 0 + length (bytes n ends nbr kind) ≡ b = omega (arith, is-behind) in
+        let g : v ≡ sets o 0 (bytes n ends nbr kind) = ev ∙ rw (ey, le-leb (0 + 3) (length o) r, em, job-bytes n ends nbr kind) in
+        let f : x ≡ sets o 0 sizedBytes = ex ∙ rw (g, ← z) (sym (sets-append o 0 (bytes n ends nbr kind) (writeSizes (sizesIn t sizes)))) in
+        front-writes sizedBytes o x (b + c) is-length f (omega (arith, is-length))

@@ -1,12 +1,14 @@
-// The stars of a job's bytes, held one behind the other.
+// The stars and the sizes of a job's bytes, held one behind the other.
 ghost use mathlib.Core.Path.{_≡_};
 ghost use mathlib.Core.List.{map};
-ghost use Prim.Native.Nat.{_+_, _/_, _≤_};
+ghost use Prim.Native.Nat.{_+_, _*_, _/_, _≤_};
 ghost use lib.ListN.{length, drop};
 ghost use lib.Seq.{sets};
-ghost use Rattle.floor.specs.Jobs.{entries, pairsIn};
+ghost use Rattle.floor.specs.Jobs.{entries, pairsIn, sizePairs, sizeBytes};
 ghost use Rattle.stars.specs.Held.{toOf, kindOf, heldOf};
-ghost use Rattle.jobs.specs.Shapes.{starsAt};
+ghost use Rattle.stars.specs.Sized.{heldSizes};
+ghost use Rattle.jobs.specs.Shapes.{starsAt, sizesAt};
+use stars::Sizes;
 use stars::Stars;
 
 // A byte as it is held.
@@ -57,5 +59,36 @@ pub fn hold(job: &[u8], from: usize, n: u8) -> Stars
         ends: ends,
         nbr: nbr,
         kind: kind,
+    }
+}
+
+// The sizes of some bytes, a width and a height each, put at the front.
+fn put_sizes(list: &mut [u8], bytes: &[u8])
+    requires { ⌜ 2 * (length (now bytes) / 2) ≤ length (now list) ⌝ }
+    ensures { λ _. ⌜ now (list .exit) ≡ sets (now (list .entry)) 0 (sizeBytes (sizePairs (now (bytes .entry)))) ⌝ }
+{
+    let many = bytes.len() / 2;
+    let mut i: usize = 0;
+    while i < many {
+        let wide = bytes[2 * i];
+        let tall = bytes[2 * i + 1];
+        list[2 * i] = wide;
+        list[2 * i + 1] = tall;
+        i += 1;
+    }
+}
+
+// The sizes of the field at a place, held.
+pub fn hold_sizes(job: &[u8], at: usize) -> Sizes
+    requires { ⌜ length (sizesAt (drop at (now job))) ≤ 60 ⌝ }
+    ensures { λ r. ⌜ r ≡ heldSizes (sizesAt (drop at (now (job .entry)))) ⌝ }
+{
+    let bytes = fields::value_at(job, at);
+    let none = stars::least::none_told();
+    let mut list = none.list;
+    put_sizes(&mut list, bytes);
+    Sizes {
+        told: (bytes.len() / 2) as u8,
+        list,
     }
 }

@@ -1,28 +1,30 @@
-// Jobs from bytes: tests 1 to 3 and 1 to 6, the star question, and writing a job back.
+// Jobs from bytes: tests 1 to 3, tests 1 to 6 and 17, the star question, and writing a job back.
 ghost use mathlib.Core.Path.{_≡_};
-ghost use Rattle.floor.specs.Jobs.{readJob, rawStar, firstThree, firstSix, writeJob};
+ghost use Rattle.floor.specs.Jobs.{sizedJob, readJob, rawStar, firstThree, firstSix, sizesPass, writeSized};
 ghost use Rattle.jobs.specs.Reads.{Tells};
 ghost use Rattle.stars.specs.Held.{jobIn};
+ghost use Rattle.stars.specs.Sized.{sizesIn};
 ghost use Rattle.fields.specs.Writes.{replied, writing};
 use fields::Written;
+use stars::Sizes;
 use stars::Stars;
 
 mod outline; // outline.rt: the first field, the number of rooms, and the remaining shape
 mod walk; // walk.rt: tests 4 and 5, star by star along the bytes
-mod fill; // fill.rt: the stars held
-mod tests; // tests.rt: tests 3 to 6 of a job of the right shape
-mod put; // put.rt: the held stars, written
+mod fill; // fill.rt: the stars and the sizes held
+mod tests; // tests.rt: tests 3 to 6 and 17 of a job of the right shape
+mod put; // put.rt: the held stars and sizes, written
 
-// How many pairs some stars have: no such stars stand there, or their number.
+// How many pairs some stars have: no such stars stand there, or their number and the place behind them.
 pub enum Count {
     Unshaped,
-    Pairs(usize),
+    Pairs(usize, usize),
 }
 
-// What the bytes of a job are by their shape: refused, or the number of rooms, where the first star's field starts, and how many pairs there are.
+// What the bytes of a job are by their shape: refused, or the number of rooms, where the first star's field starts, how many pairs there are, and the place behind the stars.
 pub enum Shape {
     Fails(u8),
-    Rooms(u8, usize, usize),
+    Rooms(u8, usize, usize, usize),
 }
 
 // What reading a job answers: the tests are passed, or the number of the first that fails.
@@ -31,10 +33,11 @@ pub enum Answer {
     Refused(u8),
 }
 
-// A job, read: the answer, and the stars, none of them where it is refused.
+// A job, read: the answer, the stars and the least sizes, none of them where it is refused.
 pub struct Read {
     pub answer: Answer,
     pub stars: Stars,
+    pub sizes: Sizes,
 }
 
 // A job's bytes, read and put through tests 1 to 3: what passes is held, and may yet be no floor.
@@ -44,18 +47,18 @@ pub fn hold_job(job: &[u8]) -> Read
     let shape = outline::shape_of(job);
     match shape {
         Shape::Fails(k) => tests::refused(k),
-        Shape::Rooms(n, at, pairs) => tests::kept(job, n, at, pairs),
+        Shape::Rooms(n, at, pairs, end) => tests::kept(job, n, at, pairs, end),
     }
 }
 
-// A job's bytes, read and put through tests 1 to 6.
+// A job's bytes, read and put through tests 1 to 6 and 17.
 pub fn read_job(job: &[u8]) -> Read
-    ensures { λ r. ⌜ Tells r (firstSix (readJob (now (job .entry)))) ⌝ }
+    ensures { λ r. ⌜ Tells r (sizesPass (firstSix (readJob (now (job .entry))))) ⌝ }
 {
     let shape = outline::shape_of(job);
     match shape {
         Shape::Fails(k) => tests::refused(k),
-        Shape::Rooms(n, at, pairs) => tests::tested(job, n, at, pairs),
+        Shape::Rooms(n, at, pairs, end) => tests::tested(job, n, at, pairs, end),
     }
 }
 
@@ -64,7 +67,7 @@ pub fn raw_star(job: &[u8], room: usize) -> &[u8]
     ensures { λ r. ⌜ now r ≡ rawStar (now (job .entry)) room ⌝ }
 {
     let shape = outline::shape_of(job);
-    let Shape::Rooms(n, _, _) = shape else {
+    let Shape::Rooms(n, _, _, _) = shape else {
         return &job[0..0];
     };
     if room < 4 {
@@ -83,18 +86,22 @@ pub fn write_job<'a>(
     nbr: &'a [u16; 360],
     kind: &'a [u8],
     count: u8,
+    told: u8,
+    sizes: &'a [u8],
     out: &mut [u8],
 ) -> Written
-    ensures { λ r. ⌜ (replied r ≡ writing (writeJob (jobIn count (now (ends .entry)) (now (nbr .entry)) (now (kind .entry)))) (now (out .entry)) .reply)
-        × (now (out .exit) ≡ writing (writeJob (jobIn count (now (ends .entry)) (now (nbr .entry)) (now (kind .entry)))) (now (out .entry)) .buffer) ⌝ }
+    ensures { λ r. ⌜ (replied r ≡ writing (writeSized (sizedJob (jobIn count (now (ends .entry)) (now (nbr .entry)) (now (kind .entry))) (sizesIn told (now (sizes .entry))))) (now (out .entry)) .reply)
+        × (now (out .exit) ≡ writing (writeSized (sizedJob (jobIn count (now (ends .entry)) (now (nbr .entry)) (now (kind .entry))) (sizesIn told (now (sizes .entry))))) (now (out .entry)) .buffer) ⌝ }
 {
     let many = fields::wide(count);
-    let length = put::job_length(ends, nbr, many);
+    let behind = put::job_length(ends, nbr, many);
+    let length = behind + put::sizes_length(told);
     if out.len() < length {
         return Written::TooShort;
     }
     fields::put_head(out, 0, 1, 1);
     out[3] = count;
     put::put_stars(out, 4, ends, nbr, kind, many);
+    put::put_sizes(out, behind, told, sizes);
     Written::Wrote(length)
 }

@@ -1,15 +1,18 @@
-// The shape of a job's bytes: the first field (1), the number of rooms (2), then the remaining fields (1).
+// The shape of a job's bytes: the first field (1), the number of rooms (2), then the stars and the sizes (1).
 ghost use mathlib.Core.Path.{_≡_};
+ghost use mathlib.Core.Bool.{true, cond};
+ghost use mathlib.Core.Option.{none, some};
 ghost use lib.ListN.{drop};
-ghost use Rattle.floor.specs.Jobs.{readStars, readJob};
-ghost use Rattle.jobs.specs.Shapes.{counted, pairsPast, reading, told};
+ghost use Rattle.floor.specs.Fields.{afterFields};
+ghost use Rattle.floor.specs.Jobs.{test2, readStars, readSizes, readRooms, readJob};
+ghost use Rattle.jobs.specs.Shapes.{counted, behind, pairsPast, sizesAt, reading, told};
 use crate::Count;
 use crate::Shape;
 use fields::Found;
 
-// The pairs of the n stars from a place on, with nothing behind them.
+// The pairs of the n stars from a place on, and the place behind them.
 fn count_pairs(job: &[u8], from: usize, n: u8) -> Count
-    ensures { λ r. ⌜ counted r ≡ pairsPast 0 (readStars n (drop from (now (job .entry)))) ⌝ }
+    ensures { λ r. ⌜ (counted r ≡ pairsPast 0 (readStars n (drop from (now (job .entry))))) × behind r (now (job .entry)) (afterFields n (drop from (now (job .entry)))) ⌝ }
 {
     let count = fields::wide(n);
     let mut at = from;
@@ -30,10 +33,42 @@ fn count_pairs(job: &[u8], from: usize, n: u8) -> Count
         at = end;
         i += 1;
     }
-    if at < job.len() {
-        return Count::Unshaped;
+    Count::Pairs(pairs, at)
+}
+
+// Whether nothing stands at a place, or one field of tag 7 with a width and a height for each of n rooms, and nothing behind it.
+fn sizes_follow(job: &[u8], place: usize, n: u8) -> bool
+    ensures { λ r. ⌜ readSizes n (drop place (now (job .entry))) ≡ cond r (some (sizesAt (drop place (now (job .entry))))) none ⌝ }
+{
+    if job.len() <= place {
+        return true;
     }
-    Count::Pairs(pairs)
+    let here = fields::reader::read_at(job, place);
+    let Found::Whole(tag, start, end) = here else {
+        return false;
+    };
+    if tag != 7 {
+        return false;
+    }
+    if end - start != 2 * fields::wide(n) {
+        return false;
+    }
+    job.len() <= end
+}
+
+// Test 1 of the fields behind the first, of n rooms that passed test 2: the stars, then the sizes or nothing.
+fn rest_of(job: &[u8], from: usize, n: u8) -> Shape
+    requires { ⌜ test2 n ≡ true ⌝ }
+    ensures { λ r. ⌜ (reading r (now (job .entry)) ≡ readRooms true n (drop from (now (job .entry)))) × told r (now (job .entry)) ⌝ }
+{
+    let count = count_pairs(job, from, n);
+    let Count::Pairs(pairs, end) = count else {
+        return Shape::Fails(1);
+    };
+    if !sizes_follow(job, end, n) {
+        return Shape::Fails(1);
+    }
+    Shape::Rooms(n, from, pairs, end)
 }
 
 // Test 1 of the first field and of what follows, with test 2 between them.
@@ -57,9 +92,5 @@ pub fn shape_of(job: &[u8]) -> Shape
     if 60 < n {
         return Shape::Fails(2);
     }
-    let count = count_pairs(job, end, n);
-    match count {
-        Count::Unshaped => Shape::Fails(1),
-        Count::Pairs(pairs) => Shape::Rooms(n, end, pairs),
-    }
+    rest_of(job, end, n)
 }

@@ -11,10 +11,9 @@ use lib.ListN.{length, getD, take, drop, length-append, length-take, length-drop
 use lib.Seq.{sets, take-all, getD-append-add}
 use Rattle.floor.specs.Lists.{keep, pairwise}
 use Rattle.floor.specs.Lists.Laws.{mem-getD}
-use Rattle.floor.specs.Jobs.{Job}
-use Rattle.floor.specs.Walls.{rules}
+use Rattle.floor.specs.Jobs.{SizedJob}
 use Rattle.floor.specs.Plans.{Plan}
-use Rattle.floor.specs.Registers.{Partition, axisOf, wideOf, longOf, roomSides, register, writeRegister}
+use Rattle.floor.specs.Registers.{Partition, joins, wideOf, longOf, roomSides, register, writeRegister}
 use Rattle.floor.specs.Registers.Runs.{Seen}
 use Rattle.floor.specs.Registers.Floors.{viewOf}
 use Rattle.floor.specs.Registers.Right.{side-lies, lies-inside, upright-seen, level-seen}
@@ -30,7 +29,7 @@ use Rattle.drawing.specs.declared.Plan.{Plan as HeldPlan}
 use Rattle.drawing.proofs.Corollaries.{bytes-kept, plan-held}
 use Rattle.registers.specs.declared.Register.{Register}
 use Rattle.registers.specs.declared.held.Wall.{Wall}
-use Rattle.registers.specs.Sorting.{inOrder, orderedSides, keptWalls}
+use Rattle.registers.specs.Sorting.{linesOf, inOrder, orderedSides, keptWalls}
 use Rattle.registers.specs.Kept.{rowsOf, noughts, isUpright, noRegister, keptRegister, wallIn, wallAt, wallsIn, registerIn}
 use Rattle.registers.proofs.Numbers.{sets-in}
 use Rattle.registers.proofs.Buckets.{in-order, same-sides}
@@ -38,9 +37,9 @@ use Rattle.registers.proofs.Rows.{rows-length}
 use Rattle.registers.proofs.Keeping.{Along, merged-along, uprights-first}
 
 -- THE PROMISE OF `register_of` ALLOWS ONE REGISTER
-pub one-register : (n : ℕ) (l : List ℕ) (r t : Register) → ((w h : ℕ) → r ≡ keptRegister (keptWalls (planFrom w h (n + 4) l)))
-    → ((w h : ℕ) → t ≡ keptRegister (keptWalls (planFrom w h (n + 4) l))) → r ≡ t
-one-register n l r t f g = f 0 0 ∙ sym (g 0 0)
+pub one-register : (w h n : ℕ) (l : List ℕ) (r t : Register) → r ≡ keptRegister (keptWalls (planFrom w h (n + 4) l))
+    → t ≡ keptRegister (keptWalls (planFrom w h (n + 4) l)) → r ≡ t
+one-register w h n l r t f g = f ∙ sym g
 
 -- THE PROMISE OF `write_register` ALLOWS ONE ANSWER AND ONE BUFFER
 pub one-register-writing : (ws : List Partition) (o : List ℕ) (a b : Written) (x y : List ℕ)
@@ -65,9 +64,9 @@ one-wall q r t d e =
     same-wall t d x b e n ed ex eb ee en = rw (ed, ex, eb, ee, en)
 
 -- what `register_of` gives of any plan that is held
-pub counted-held : (q : HeldPlan) (r : Register) → ((w h : ℕ) → r ≡ keptRegister (keptWalls (planFrom w h (q .rooms + 4) (q .rects))))
+pub counted-held : (q : HeldPlan) (r : Register) → r ≡ keptRegister (keptWalls (planFrom (q .width) (q .height) (q .rooms + 4) (q .rects)))
     → r ≡ keptRegister (keptWalls (planIn q))
-counted-held q r f = f (q .width) (q .height) ∙ ap (λ (x : Plan). keptRegister (keptWalls x)) (plan-held q)
+counted-held q r f = f ∙ ap (λ (x : Plan). keptRegister (keptWalls x)) (plan-held q)
 
 -- the walls that are kept, by the register's numbers
 pub walls-held : (r : Register) → wallsIn (r .uprights) (r .many) 0 (r .rows) ≡ registerIn r
@@ -130,49 +129,53 @@ unfolding keptWalls
 walls-kept p few =
     register-back (merged 0 (orderedSides 0 p)) (merged 1 (orderedSides 1 p)) (merged-along 0 (orderedSides 0 p)) (merged-along 1 (orderedSides 1 p)) few
 
+-- EVERY LINE OF A SHEET is counted, where it is at most 256 wide and high
+lines-all : (p : Plan) → p .width ≤ 256 → p .height ≤ 256 → (d : ℕ) → (wideOf d p ≤ linesOf p) × (longOf d p ≤ linesOf p)
+unfolding wideOf longOf linesOf
+lines-all p w h zero = (omega arith, omega arith)
+lines-all p w h (suc d) = (omega arith, omega arith)
+
 -- OF EVERY PLAN THAT IS HELD
-module _ (j : Job) (p : Plan) (s : Sound j p) where
+module _ (o : SizedJob) (p : Plan) (s : Sound o p) where
   -- each direction of the plan, seen as the register sees it
-  seen : (d : ℕ) → d < 2 → Seen (viewOf (length j + 4) d p) (rules (axisOf d) j)
-  seen zero h = upright-seen j (s .passes) (some-room j p s) p (sound-good j p s) (sound-thin j p s)
-  seen (suc zero) h = level-seen j (s .passes) (some-room j p s) p (sound-good j p s) (sound-thin j p s)
+  seen : (d : ℕ) → d < 2 → Seen (viewOf (length (o .stars) + 4) d p) (joins d (o .stars))
+  seen zero h = upright-seen (o .stars) (s .passes) (some-room o p s) p (sound-good o p s) (sound-thin o p s)
+  seen (suc zero) h = level-seen (o .stars) (s .passes) (some-room o p s) p (sound-good o p s) (sound-thin o p s)
   seen (suc (suc d)) h = absurd (omega arith)
 
-  -- its sheet has fewer lines than are counted
-  small-sheet : (d : ℕ) → (wideOf d p ≤ 64) × (longOf d p ≤ 64)
-  unfolding wideOf longOf
-  small-sheet zero = (omega (arith, limits j p s .2, limits j p s .0), omega (arith, limits j p s .3, limits j p s .0))
-  small-sheet (suc d) = (omega (arith, limits j p s .3, limits j p s .0), omega (arith, limits j p s .2, limits j p s .0))
+  -- every line of its sheet is counted
+  all-lines : (d : ℕ) → (wideOf d p ≤ linesOf p) × (longOf d p ≤ linesOf p)
+  all-lines = lines-all p (omega (arith, limits o p s .2, limits o p s .0)) (omega (arith, limits o p s .3, limits o p s .0))
 
   -- the sides of all its rooms are put in order
-  all-sides : (d : ℕ) → orderedSides d p ≡ inOrder 64 (roomSides d p)
+  all-sides : (d : ℕ) → orderedSides d p ≡ inOrder (linesOf p) (roomSides d p)
   unfolding orderedSides roomSides
   all-sides d =
-      let few : length (drop 4 (p .rects)) ≤ 60 = omega (arith, length-drop 4 (p .rects), sound-good j p s .floor .complete .count, limits j p s .0) in
+      let few : length (drop 4 (p .rects)) ≤ 60 = omega (arith, length-drop 4 (p .rects), sound-good o p s .floor .complete .count, limits o p s .0) in
       rw (take-all 60 (drop 4 (p .rects)) few)
 
   -- they are the same sides
   rearranged : (d : ℕ) → d < 2 → Rearranged (roomSides d p) (orderedSides d p)
   rearranged d h =
-      rw (all-sides d) (same-sides 64 (roomSides d p)
+      rw (all-sides d) (same-sides (linesOf p) (roomSides d p)
       (λ t m.
-      let (n, l) = side-lies d j p (sound-good j p s .floor .complete) (seen d h) t m in
-      let (a1, a2, a3, a4, a5) = lies-inside d j p (sound-good j p s .floor .complete) (seen d h) n t l in
-      let (x, y) = small-sheet d in
+      let (n, l) = side-lies d (o .stars) p (sound-good o p s .floor .complete) (seen d h) t m in
+      let (a1, a2, a3, a4, a5) = lies-inside d (o .stars) p (sound-good o p s .floor .complete) (seen d h) n t l in
+      let (x, y) = all-lines d in
       (omega arith, omega arith)))
 
   -- and stand in order
   ordered : (d : ℕ) → pairwise inLine (orderedSides d p) ≡ true
-  ordered d = rw (all-sides d) (in-order 64 (roomSides d p))
+  ordered d = rw (all-sides d) (in-order (linesOf p) (roomSides d p))
 
   -- THE WALLS COUNTED FAST ARE THE REGISTER counted afresh
   pub kept-right : keptWalls p ≡ register p
   unfolding keptWalls
   kept-right =
-      held-merged j p s (orderedSides 0 p) (orderedSides 1 p) (rearranged 0 (omega arith)) (ordered 0) (rearranged 1 (omega arith)) (ordered 1)
+      held-merged o p s (orderedSides 0 p) (orderedSides 1 p) (rearranged 0 (omega arith)) (ordered 0) (rearranged 1 (omega arith)) (ordered 1)
 
   -- WHAT `register_of` GIVES OF IT, held, is the register counted afresh
-  pub counted-right : (q : HeldPlan) (r : Register) → planIn q ≡ p → ((w h : ℕ) → r ≡ keptRegister (keptWalls (planFrom w h (q .rooms + 4) (q .rects))))
+  pub counted-right : (q : HeldPlan) (r : Register) → planIn q ≡ p → r ≡ keptRegister (keptWalls (planFrom (q .width) (q .height) (q .rooms + 4) (q .rects)))
       → r ≡ keptRegister (register p)
   counted-right q r e f = counted-held q r f ∙ ap (λ (x : Plan). keptRegister (keptWalls x)) e ∙ ap (λ (ws : List Partition). keptRegister ws) kept-right
 
@@ -180,9 +183,9 @@ module _ (j : Job) (p : Plan) (s : Sound j p) where
   pub held-back : registerIn (keptRegister (register p)) ≡ register p
   held-back =
       ap (λ (ws : List Partition). registerIn (keptRegister ws)) (sym kept-right)
-      ∙ walls-kept p (omega (arith, ap (λ (ws : List Partition). length ws) kept-right, held-walls j p s, limits j p s .0))
+      ∙ walls-kept p (omega (arith, ap (λ (ws : List Partition). length ws) kept-right, held-walls o p s, limits o p s .0))
       ∙ kept-right
 
   -- WRITTEN, it is the register's bytes
   pub held-written : inBytes (writeRegister (registerIn (keptRegister (register p)))) ≡ writeRegister (register p)
-  held-written = rw held-back (bytes-kept (writeRegister (register p)) (register-bytes j p s))
+  held-written = rw held-back (bytes-kept (writeRegister (register p)) (register-bytes o p s))

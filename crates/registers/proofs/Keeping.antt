@@ -1,5 +1,5 @@
 -- The register as it is kept: its rows, and how many of them. Assumes nothing.
-use Prim.Native.Nat.{ℕ, zero, suc, _+_, _*_, _≤_, _<_, min}
+use Prim.Native.Nat.{ℕ, zero, suc, _+_, _*_, _≤_, _<_, min, max}
 use mathlib.Core.Path.{_≡_, refl, sym, ap, _∙_}
 use mathlib.Core.Bool.{Bool, true, false, cond}
 use mathlib.Core.List.{List, [], _∷_, _++_, List·Memᴰ, List·Memᴰ·head, List·Memᴰ·tail, List·Memᴰ·not-nil}
@@ -13,7 +13,7 @@ use Rattle.floor.specs.Plans.{Rect}
 use Rattle.floor.specs.Registers.{Stretch, Partition, sidesIn}
 use Rattle.floor.specs.Registers.Merge.{opened, extended, goesOn, mergeFrom, merged}
 use Rattle.drawing.specs.Rects.{rectAt, rectsIn, planFrom}
-use Rattle.registers.specs.Sorting.{rooms, inOrder, orderedSides, keptWalls}
+use Rattle.registers.specs.Sorting.{rooms, linesOf, inOrder, orderedSides, keptWalls}
 use Rattle.registers.specs.Kept.{rowsOf, written, noughts, isUpright, noRegister, keptRegister}
 use Rattle.registers.proofs.Numbers.{sets-out}
 use Rattle.registers.proofs.Rows.{written-append, written-none}
@@ -39,8 +39,9 @@ rooms-of w h n l = let e : n + 4 ≡ suc (suc (suc (suc n))) = omega arith in rw
 
 -- the walls of a plan's rooms, by direction
 pub kept-is : (w h n : ℕ) (l : List ℕ)
-    → keptWalls (planFrom w h (n + 4) l) ≡ merged 0 (inOrder 64 (sidesIn 0 (rectsIn (min 60 n) 4 l))) ++ merged 1 (inOrder 64 (sidesIn 1 (rectsIn (min 60 n) 4 l)))
-unfolding keptWalls orderedSides
+    → keptWalls (planFrom w h (n + 4) l)
+    ≡ merged 0 (inOrder (min 256 (max w h)) (sidesIn 0 (rectsIn (min 60 n) 4 l))) ++ merged 1 (inOrder (min 256 (max w h)) (sidesIn 1 (rectsIn (min 60 n) 4 l)))
+unfolding keptWalls orderedSides linesOf
 kept-is w h n l = rw (rooms-of w h n l)
 
 -- DIRECTIONS: the walls of a direction stand in it
@@ -110,10 +111,10 @@ register-put us ls l₀ l₁ l₂ u m a b f g e₀ e₁ eu e₂ em ea eb =
     rw (p, q, s)
 
 -- and of a plan's rooms
-pub register-counted : (w h n k : ℕ) (l l₀ l₁ l₂ : List ℕ) (u m a b : ℕ) → l₀ ≡ replicate 256 0 → k ≡ min 60 n
-    → (l₁ ≡ written l₀ 0 (merged 0 (inOrder 64 (sidesIn 0 (rectsIn k 4 l))))) × (u ≡ 0 + length (merged 0 (inOrder 64 (sidesIn 0 (rectsIn k 4 l))))) × (u ≤ 0 + 4194304)
-    → (l₂ ≡ written l₁ u (merged 1 (inOrder 64 (sidesIn 1 (rectsIn k 4 l))))) × (m ≡ u + length (merged 1 (inOrder 64 (sidesIn 1 (rectsIn k 4 l))))) × (m ≤ u + 4194304)
+pub register-counted : (w h n k x : ℕ) (l l₀ l₁ l₂ : List ℕ) (u m a b : ℕ) → l₀ ≡ replicate 256 0 → k ≡ min 60 n → x ≡ min 256 (max w h)
+    → (l₁ ≡ written l₀ 0 (merged 0 (inOrder x (sidesIn 0 (rectsIn k 4 l))))) × (u ≡ 0 + length (merged 0 (inOrder x (sidesIn 0 (rectsIn k 4 l))))) × (u ≤ 0 + 16777216)
+    → (l₂ ≡ written l₁ u (merged 1 (inOrder x (sidesIn 1 (rectsIn k 4 l))))) × (m ≡ u + length (merged 1 (inOrder x (sidesIn 1 (rectsIn k 4 l))))) × (m ≤ u + 16777216)
     → a ≡ min 64 u → b ≡ min 64 m → record { uprights = a; many = b; rows = l₂ } ≡ keptRegister (keptWalls (planFrom w h (n + 4) l))
-register-counted w h n k l l₀ l₁ l₂ u m a b e₀ ek (e₁, eu, _) (e₂, em, _) ea eb =
-    register-put _ _ l₀ l₁ l₂ u m a b (merged-along 0 (inOrder 64 (sidesIn 0 (rectsIn k 4 l)))) (merged-along 1 (inOrder 64 (sidesIn 1 (rectsIn k 4 l)))) e₀ e₁ eu e₂ em ea eb
-    ∙ ap (λ (ws : List Partition). keptRegister ws) (sym (kept-is w h n l ∙ rw (← ek)))
+register-counted w h n k x l l₀ l₁ l₂ u m a b e₀ ek ex (e₁, eu, _) (e₂, em, _) ea eb =
+    register-put _ _ l₀ l₁ l₂ u m a b (merged-along 0 (inOrder x (sidesIn 0 (rectsIn k 4 l)))) (merged-along 1 (inOrder x (sidesIn 1 (rectsIn k 4 l)))) e₀ e₁ eu e₂ em ea eb
+    ∙ ap (λ (ws : List Partition). keptRegister ws) (sym (kept-is w h n l ∙ rw (← ek, ← ex)))

@@ -20,8 +20,8 @@ struct Begun {
     pub sides: u16,
 }
 
-// The later of two ends.
-fn later(a: u16, b: u16) -> u16
+// The greater of two numbers: of two ends the later.
+pub fn greater(a: u16, b: u16) -> u16
     ensures { λ r. ⌜ r ≡ max a b ⌝ }
 {
     if a < b { b } else { a }
@@ -65,7 +65,7 @@ fn add_side(rows: &mut [u16], w: Begun, line: u16, begins: u16, ends: u16) -> Be
             at: w.at,
             line: w.line,
             begins: w.begins,
-            ends: later(w.ends, ends),
+            ends: greater(w.ends, ends),
             sides: w.sides + 1,
         };
     }

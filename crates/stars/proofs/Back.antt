@@ -22,7 +22,7 @@ sets-below l [] i k h = refl
 sets-below l (v ∷ vs) i k h = sets-below (set l i v) vs (suc i) k (omega arith) ∙ getD-set-other l i k v 0 (λ e. omega arith)
 
 -- what is put first stays
-first-put : (l vs : List ℕ) (k v : ℕ) → k < length l → getD (sets (set l k v) (suc k) vs) k 0 ≡ v
+pub first-put : (l vs : List ℕ) (k v : ℕ) → k < length l → getD (sets (set l k v) (suc k) vs) k 0 ≡ v
 first-put l vs k v h = sets-below (set l k v) vs (suc k) k (omega arith) ∙ getD-set-same l k v 0 h
 
 module _ where

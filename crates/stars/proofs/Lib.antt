@@ -4,3 +4,4 @@ pub mod EveryRoom
 pub mod Holding
 pub mod Back
 pub mod Round
+pub mod Sized

@@ -8,7 +8,7 @@ use borrow.Author.Tests.{le-leb, lt-leb}
 use lib.Dec.{leb}
 use lib.ListN.{length}
 use lib.Seq.{sets}
-use Rattle.floor.specs.Jobs.{Job}
+use Rattle.floor.specs.Jobs.{SizedJob}
 use Rattle.floor.specs.Plans.{Plan, Answer, refused, held}
 use Rattle.floor.specs.Registers.{Partition, register}
 use Rattle.floor.specs.Cuts.{planTree}
@@ -16,7 +16,6 @@ use Rattle.floor.specs.Calls.{load}
 use Rattle.floor.specs.Calls.Sound.{Sound, load-held as loaded-sound}
 use Rattle.floor.specs.Quoted.{plain}
 use Rattle.floor.specs.Texts.{line, refusedWord, tooLong, planText, answerText, listing, wallLines, wallsText, wallsListing, cutLines, cutsText, cutsListing}
-use Rattle.stars.specs.Held.{jobOf}
 use Rattle.drawing.specs.declared.Answer.the-variants.{Drawn, Refused}
 use Rattle.drawing.specs.declared.Plan.{Plan as HeldPlan}
 use Rattle.drawing.specs.Rects.{planFrom, planIn}
@@ -26,7 +25,7 @@ use Rattle.registers.specs.declared.Register.{Register}
 use Rattle.registers.specs.Kept.{wallsIn, registerIn}
 use Rattle.registers.proofs.Corollaries.{walls-held}
 use Rattle.board.specs.declared.Planned.{Planned}
-use Rattle.board.specs.Boards.{Plans}
+use Rattle.board.specs.Boards.{heldJob, Plans}
 use Rattle.board.proofs.Corollaries.{planned-register, planned-few}
 use Rattle.letters.specs.Puts.{Puts}
 use Rattle.letters.proofs.Rows.{front-put}
@@ -62,11 +61,11 @@ module _ (bs : List ℕ) (text : Answer → List ℕ) where
 
   module _ (l : length bs ≤ 8192) (q : Planned) (p : Plans q (load bs)) where
     -- a job that is drawn: the text of its job and plan
-    drawn : q .answer ≡ Drawn → printed ≡ text (held (jobOf (q .board .stars)) (planIn (q .board .plan)))
+    drawn : q .answer ≡ Drawn → printed ≡ text (held (heldJob (q .board)) (planIn (q .board .plan)))
     unfolding said
     drawn d =
         let z : leb (length bs) 8192 ≡ true = le-leb (length bs) 8192 l in
-        let h : load bs ≡ held (jobOf (q .board .stars)) (planIn (q .board .plan)) = sym (rw d at (p .says)) in
+        let h : load bs ≡ held (heldJob (q .board)) (planIn (q .board .plan)) = sym (rw d at (p .says)) in
         rw (z, h)
 
     -- a job that is refused: the text of the refusal
@@ -122,12 +121,12 @@ module _ (bs : List ℕ) where
     drawn-plan = planFrom (plan .width) (plan .height) (plan .rooms + 4) (plan .rects)
 
     -- what is held of a job that is drawn is sound
-    drawn-sound : q .answer ≡ Drawn → Sound (jobOf (q .board .stars)) drawn-plan
+    drawn-sound : q .answer ≡ Drawn → Sound (heldJob (q .board)) drawn-plan
     unfolding said
     drawn-sound d = rw (plan-held plan) (loaded-sound bs _ _ (sym (rw d at (p .says))) .1)
 
     -- and for the contractor, at the front of the page: the lines of its cuts
-    pub cuts-text : (o x : List ℕ) (r : ℕ) → length o ≡ 8192 → ((j : Job) → Sound j drawn-plan → Puts o 0 (cutLines (planTree drawn-plan)) x r)
+    pub cuts-text : (o x : List ℕ) (r : ℕ) → length o ≡ 8192 → ((j : SizedJob) → Sound j drawn-plan → Puts o 0 (cutLines (planTree drawn-plan)) x r)
         → q .answer ≡ Drawn → Fronts o (cutsListing bs) x r
     unfolding cutsListing cutsText
     cuts-text o x r e puts d =

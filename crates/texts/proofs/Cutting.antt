@@ -11,7 +11,7 @@ use lib.ListN.{length, getD, take, drop, drop-of-length-le, length-append, lengt
 use lib.Seq.{drop-drop, getD-drop, take-append-seam}
 use Rattle.floor.specs.Fields.{Bytes, writeField}
 use Rattle.floor.specs.Fields.Laws.{bytes-behind}
-use Rattle.floor.specs.Jobs.{Job}
+use Rattle.floor.specs.Jobs.{SizedJob}
 use Rattle.floor.specs.Plans.{Plan, refused}
 use Rattle.floor.specs.Quoted.{plain}
 use Rattle.floor.specs.Cuts.{Direction, upright, level, Tree, leaf, cut, wayByte, writeTree, planTree}
@@ -179,7 +179,7 @@ lines-short (cut a c s t) (_, (_, (_, (_, (h, hs))))) =
       lines-short t (bytes-behind (writeTree s) (writeTree t) hs),
     )
 
-module _ (j : Job) (p : Plan) (s : Sound j p) where
+module _ (j : SizedJob) (p : Plan) (s : Sound j p) where
   -- THE LINES OF A HELD PLAN'S CUTS have at most 1,605 bytes
   pub cuts-short : length (cutLines (planTree p)) ≤ 1605
   cuts-short = go (planTree p) refl

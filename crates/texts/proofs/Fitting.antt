@@ -16,7 +16,6 @@ use Rattle.floor.specs.Calls.Bytes.{length-writePlan, plan-length-most}
 use Rattle.floor.specs.Quoted.{plain}
 use Rattle.floor.specs.Texts.{line, refusedWord, tooLong, answerText}
 use Rattle.floor.specs.Doors.{Door, startOn, stopOn, doorAt, doorsTo, doorsAmong, doors, doorLines, doorsText, doorsListing}
-use Rattle.stars.specs.Held.{jobOf}
 use Rattle.drawing.specs.declared.Rect.{Rect as HeldRect}
 use Rattle.drawing.specs.declared.Touch.{Touch as Touching}
 use Rattle.drawing.specs.declared.Touch.the-variants.{Clear, Wall}
@@ -26,7 +25,7 @@ use Rattle.drawing.specs.Rects.{rectIn, touchIn, rectsIn, planIn}
 use Rattle.drawing.specs.Drawn.{said}
 use Rattle.drawing.proofs.Corollaries.{many-rects}
 use Rattle.board.specs.declared.Planned.{Planned}
-use Rattle.board.specs.Boards.{Plans}
+use Rattle.board.specs.Boards.{heldJob, Plans}
 use Rattle.letters.specs.Puts.{Puts}
 use Rattle.letters.proofs.Rows.{both-puts, named, none-put, front-put}
 use Rattle.texts.proofs.Rows.{one-short, six-short}
@@ -258,7 +257,7 @@ module _ (bs : List ℕ) (q : Planned) (p : Plans q (load bs)) (d : q .answer �
   plan = q .board .plan
 
   -- it is what the load holds
-  loaded : load bs ≡ held (jobOf (q .board .stars)) (planIn plan)
+  loaded : load bs ≡ held (heldJob (q .board)) (planIn plan)
   unfolding said
   loaded = sym (rw d at (p .says))
 

@@ -2,7 +2,7 @@
 ghost use mathlib.Core.Path.{_≡_};
 ghost use Prim.Native.Nat.{_+_, _<_};
 ghost use lib.ListN.{length, getD, replicate};
-ghost use Rattle.floor.specs.Jobs.{Job};
+ghost use Rattle.floor.specs.Jobs.{SizedJob};
 ghost use Rattle.floor.specs.Cuts.{Tree, writeTree, planTree};
 ghost use Rattle.floor.specs.Calls.Sound.{Sound};
 ghost use Rattle.floor.specs.Texts.{treeLines, cutLines};
@@ -60,7 +60,7 @@ pub fn put_cuts(
     out: &mut [u8],
     at: usize,
 ) -> usize
-    ensures { λ r. ⌜ ((j : Job) → Sound j (planFrom width height (rooms + 4) (now (rects .entry)))
+    ensures { λ r. ⌜ ((j : SizedJob) → Sound j (planFrom width height (rooms + 4) (now (rects .entry)))
         → Puts (now (out .entry)) at (cutLines (planTree (planFrom width height (rooms + 4) (now (rects .entry))))) (now (out .exit)) r) ⌝ }
 {
     let mut bytes = noughts();

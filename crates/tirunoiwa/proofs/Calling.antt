@@ -53,7 +53,7 @@ pub then-any : (s : Step) (c : Call) (P : Reply → Type 0) → ((b : Board) →
 unfolding then
 then-any s c P f h = behind-any c P f (s .reply) (s .board) h
 
--- where a refusal of the first is one of 1 to 15, so is that of both together
+-- where a refusal of the first is one of 1 to 18, so is that of both together
 pub then-numbered : (s : Step) (c : Call) → Numbered (s .reply) → Numbered (then s c .reply)
 then-numbered s c n = then-any s c Numbered (λ b. step-numbered b c) (λ k e. rw e at n)
 

@@ -8,7 +8,7 @@ use mathlib.Core.List.{List}
 use native.Mathlib.Omega.{arith}
 use borrow.Author.Tests.{leb-true}
 use lib.ListN.{length}
-use Rattle.floor.specs.Jobs.{writeJob, rawStar}
+use Rattle.floor.specs.Jobs.{writeSized, rawStar}
 use Rattle.floor.specs.Plans.{Touch, clear, wall, writePlan}
 use Rattle.floor.specs.Registers.{register, writeRegister}
 use Rattle.floor.specs.Cuts.{Tree, writeTree, planTree}
@@ -57,10 +57,10 @@ one-touch bs u v r t p q = p ∙ sym q
 
 -- ---- how an answer is read
 
--- below 256 an answer is the refusal's number, one of 1 to 15; no other answer is below
+-- below 256 an answer is the refusal's number, one of 1 to 18; no other answer is below
 pub record Refusals (a : ℕ) (r : Reply) : Type 0 where
   pub refused : (k : ℕ) → (r ≡ refusal k) ↔ ((a ≡ k) × (a < 256))
-  pub number : a < 256 → (1 ≤ a) × (a ≤ 15)
+  pub number : a < 256 → (1 ≤ a) × (a ≤ 18)
 
 -- from 256 on an answer tells the length that was written
 pub record TellsLength (a : ℕ) (r : Reply) : Type 0 where
@@ -110,7 +110,7 @@ same-touch : {t s : Touch} → touch t ≡ touch s → t ≡ s
 same-touch e = cc
 
 module _ (k : ℕ) (n : Numbered (refusal k)) where
-  -- a refusal with a number from 1 to 15 is read as that refusal
+  -- a refusal with a number from 1 to 18 is read as that refusal
   a-refusal : Refusals (code (refusal k)) (refusal k)
   unfolding code
   a-refusal = record { refused = λ l. ((λ e. (same-refusal e, omega (arith, n .1))), λ e. ap refusal (e .0)); number = λ h. n }
@@ -179,7 +179,7 @@ written-tells : (s : Step) (c : Call) → Numbered (s .reply) → ((b : Board) �
 written-tells s c n f = tells-length _ (then-numbered s c n) (then-any s c Lengths f (λ k e. tt))
 
 module _ (bs : List ℕ) where
-  -- where the load is refused, its number is one of 1 to 15
+  -- where the load is refused, its number is one of 1 to 18
   loaded : Numbered (step empty (loads bs) .reply)
   loaded = step-numbered empty (loads bs)
 
@@ -219,7 +219,7 @@ module _ (bs : List ℕ) where
       where
         lengths : (b : Board) → Lengths (step b (writesJob buf) .reply)
         lengths empty = unfold step refuse in tt
-        lengths (holding j p) = unfold step in writes-lengths (holding j p) _ (writeJob j) buf
+        lengths (holding j p) = unfold step in writes-lengths (holding j p) _ (writeSized j) buf
 
     -- THE ANSWER OF `tirunoiwa_star`, READ
     pub star-tells : (room : ℕ) → TellsLength (code (starOfJob bs room buf .reply)) (starOfJob bs room buf .reply)

@@ -1,23 +1,24 @@
--- Buffers that always suffice: no plan takes more than 517 bytes, its walls no more than 504, its cuts no more than 535, no turned job more than 904, no star
+-- Buffers that always suffice: no plan takes more than 517 bytes, its walls no more than 504, its cuts no more than 535, no turned job more than 1027, no star
 -- more than its job. Assumes nothing.
 use Prim.Native.Nat.{ℕ, _+_, _*_, _≤_}
 use mathlib.Core.Path.{_≡_, refl, sym, ap, _∙_}
-use mathlib.Core.Bool.{Bool, true, false}
+use mathlib.Core.Bool.{Bool, true, false, not}
 use mathlib.Core.Option.{Option, none, some}
 use mathlib.Core.List.{List, _++_}
 use native.Mathlib.Omega.{arith}
-use borrow.Author.Tests.{le-leb}
-use lib.Dec.{leb}
+use borrow.Author.Tests.{le-leb, eqb-true, eq-eqb}
+use lib.Dec.{leb, eqb}
 use lib.ListN.{length, length-append}
 use Rattle.floor.specs.Lists.{all}
-use Rattle.floor.specs.Jobs.{Job, isRoom, Reading, fails, reads, readJob, writeJob, rawStar}
+use Rattle.floor.specs.Lists.Laws.{all-mem, any-mem}
+use Rattle.floor.specs.Jobs.{SizedJob, isRoom, Reading, fails, reads, readJob, writeSized, rawStar}
 use Rattle.floor.specs.Jobs.Facts.{is-room, room-is}
 use Rattle.floor.specs.Jobs.Raw.{Stretch, raw-star, raw-fails, raw-no-room}
 use Rattle.floor.specs.Plans.{Plan, Answer, refused, held, writePlan}
 use Rattle.floor.specs.Registers.{register, writeRegister}
 use Rattle.floor.specs.Cuts.{Tree, writeTree, planTree}
 use Rattle.floor.specs.Turns.{turn}
-use Rattle.floor.specs.Calls.{load, Board, empty, holding, Call, turns, writesJob, writesPlan, writesRegister, writesCuts, refusal, wrote, refuse, after, writes}
+use Rattle.floor.specs.Calls.{load, Board, empty, holding, Call, turns, writesJob, writesPlan, writesRegister, writesCuts, refusal, wrote, refuse, after, writes, OneOf}
 use Rattle.floor.specs.Calls.{writesTree, step, Answers, ofLoad, ofTurn}
 use Rattle.floor.specs.Calls.Sound.{Sound, load-held, turn-held}
 use Rattle.floor.specs.Calls.Bytes.{limits, job-length-most, plan-length-most}
@@ -25,7 +26,7 @@ use Rattle.floor.specs.Calls.Registered.{register-length-most}
 use Rattle.floor.specs.Calls.Sliced.{so-many-bytes}
 use Rattle.floor.specs.Calls.Exact.{load-answers, turn-answers}
 use Rattle.floor.specs.Tracker.{behind, then, planOfJob, wallsOfJob, cutsOfJob, turnedOfJob, starOfJob}
-use Rattle.tirunoiwa.proofs.Numbers.{same-refusal, upTo, among}
+use Rattle.tirunoiwa.proofs.Numbers.{same-refusal}
 
 -- what fits is written
 fits-written : (b : Board) (bs buf : List ℕ) (k : ℕ) → length bs ≤ length buf → writes b (leb (length bs) (length buf)) bs buf .reply ≡ refusal k → ⊥
@@ -37,24 +38,39 @@ fits-written b bs buf k h e =
     no-refusal : wrote (length bs) ≡ refusal k → ⊥
     no-refusal e = let z : _≡_ {A = ℕ} 0 1 = cc in omega arith
 
+-- a number is not 14
+abbrev other : ℕ → Bool
+other k = not (eqb k 14)
+
+-- where none of some numbers is 14, any one of them is another
+another : (ks : List ℕ) (k : ℕ) → all other ks ≡ true → OneOf ks k → k ≡ 14 → ⊥
+another ks k a o f =
+    let (x, i, e) = any-mem (eqb k) ks o in
+    let z : eqb x 14 ≡ true = eq-eqb x 14 (sym (eqb-true k x e) ∙ f) in
+    let y : not (eqb x 14) ≡ true = all-mem other ks a x i in
+    no (rw z at y)
+  where
+    no : false ≡ true → ⊥
+    no q = let z : _≡_ {A = ℕ} 0 1 = cc in omega arith
+
 -- behind a load or a turn, 14 is given by the writing alone
-written-behind : (b : Board) (x : Answer) (ks : List ℕ) (c : Call) → all (upTo 13) ks ≡ true → Answers ks x
-    → ((j : Job) (p : Plan) → x ≡ held j p → step (holding j p) c .reply ≡ refusal 14 → ⊥) → then (after b x) c .reply ≡ refusal 14 → ⊥
+written-behind : (b : Board) (x : Answer) (ks : List ℕ) (c : Call) → all other ks ≡ true → Answers ks x
+    → ((j : SizedJob) (p : Plan) → x ≡ held j p → step (holding j p) c .reply ≡ refusal 14 → ⊥) → then (after b x) c .reply ≡ refusal 14 → ⊥
 unfolding then behind after refuse
-written-behind b (refused k) ks c a n s e = omega (arith, among 13 ks k a n .1, same-refusal e)
+written-behind b (refused k) ks c a n s e = another ks k a n (same-refusal e)
 written-behind b (held j p) ks c a n s e = s j p refl e
 
--- behind a load and a turn, the writing of the job to 904 bytes is not refused with 14
-turned-behind : (x : Answer) (u v : ℕ) (buf : List ℕ) → Answers ofLoad x → ((j : Job) (p : Plan) → x ≡ held j p → Sound j p) → 904 ≤ length buf
+-- behind a load and a turn, the writing of the job to 1027 bytes is not refused with 14
+turned-behind : (x : Answer) (u v : ℕ) (buf : List ℕ) → Answers ofLoad x → ((j : SizedJob) (p : Plan) → x ≡ held j p → Sound j p) → 1027 ≤ length buf
     → then (then (after empty x) (turns u v)) (writesJob buf) .reply ≡ refusal 14 → ⊥
 unfolding then behind after refuse step
-turned-behind (refused k) u v buf n s h e = omega (arith, among 13 ofLoad k (unfold all in refl) n .1, same-refusal e)
+turned-behind (refused k) u v buf n s h e = another ofLoad k (unfold all in refl) n (same-refusal e)
 turned-behind (held j p) u v buf n s h e =
     written-behind (holding j p) (turn j u v) ofTurn (writesJob buf) (unfold all in refl) (turn-answers j u v)
-    (λ i q f. fits-written (holding i q) (writeJob i) buf 14 (omega (arith, h, job-length-most i q (turn-held j p u v i q (s j p refl) f)))) e
+    (λ i q f. fits-written (holding i q) (writeSized i) buf 14 (omega (arith, h, job-length-most i q (turn-held j p u v i q (s j p refl) f)))) e
 
 -- the tree of a held plan, written to 535 bytes, is not refused with 14
-tree-fits : (j : Job) (p : Plan) → Sound j p → (buf : List ℕ) → 535 ≤ length buf → writesTree (holding j p) (planTree p) buf .reply ≡ refusal 14 → ⊥
+tree-fits : (j : SizedJob) (p : Plan) → Sound j p → (buf : List ℕ) → 535 ≤ length buf → writesTree (holding j p) (planTree p) buf .reply ≡ refusal 14 → ⊥
 tree-fits j p s buf h e = go (planTree p) refl e
   where
     go : (o : Option Tree) → planTree p ≡ o → writesTree (holding j p) o buf .reply ≡ refusal 14 → ⊥
@@ -85,8 +101,8 @@ module _ (bs buf : List ℕ) where
       written-behind empty (load bs) ofLoad (writesCuts buf) (unfold all in refl) (load-answers bs)
       (λ j p f. tree-fits j p (load-held bs j p f .1) buf h) e
 
-  -- 904 BYTES SUFFICE for a turned job
-  pub turned-enough : (u v : ℕ) → 904 ≤ length buf → turnedOfJob bs u v buf .reply ≡ refusal 14 → ⊥
+  -- 1027 BYTES SUFFICE for a turned job
+  pub turned-enough : (u v : ℕ) → 1027 ≤ length buf → turnedOfJob bs u v buf .reply ≡ refusal 14 → ⊥
   unfolding turnedOfJob step
   turned-enough u v h e = turned-behind (load bs) u v buf (load-answers bs) (λ j p f. load-held bs j p f .1) h e
 
@@ -100,18 +116,18 @@ stretch-most part bs s =
 star-most : (bs : List ℕ) (room : ℕ) → length (rawStar bs room) ≤ length bs
 star-most bs room = go (readJob bs) refl
   where
-    of-room : (j : Job) (t : Bool) → readJob bs ≡ reads j → isRoom j room ≡ t → length (rawStar bs room) ≤ length bs
-    of-room j true e f = stretch-most (rawStar bs room) bs (raw-star bs j room e (is-room j room f) .1)
+    of-room : (j : SizedJob) (t : Bool) → readJob bs ≡ reads j → isRoom (j .stars) room ≡ t → length (rawStar bs room) ≤ length bs
+    of-room j true e f = stretch-most (rawStar bs room) bs (raw-star bs j room e (is-room (j .stars) room f) .1)
     of-room j false e f =
-        let z : length (rawStar bs room) ≡ 0 = ap (λ (l : List ℕ). length l) (raw-no-room bs j room e (λ r. no (sym f ∙ room-is j room r))) in
+        let z : length (rawStar bs room) ≡ 0 = ap (λ (l : List ℕ). length l) (raw-no-room bs j room e (λ r. no (sym f ∙ room-is (j .stars) room r))) in
         omega (arith, z)
       where
         no : false ≡ true → ⊥
         no q = let z : _≡_ {A = ℕ} 0 1 = cc in omega arith
 
-    go : (r : Reading) → readJob bs ≡ r → length (rawStar bs room) ≤ length bs
+    go : (r : Reading SizedJob) → readJob bs ≡ r → length (rawStar bs room) ≤ length bs
     go (fails k) e = let z : length (rawStar bs room) ≡ 0 = ap (λ (l : List ℕ). length l) (raw-fails bs k room e) in omega (arith, z)
-    go (reads j) e = of-room j (isRoom j room) e refl
+    go (reads j) e = of-room j (isRoom (j .stars) room) e refl
 
 -- AS MANY BYTES AS THE JOB HAS SUFFICE for a star
 pub star-enough : (bs buf : List ℕ) (room k : ℕ) → length bs ≤ length buf → starOfJob bs room buf .reply ≡ refusal k → ⊥

@@ -1,4 +1,4 @@
--- Which numbers answers have: a refusal 1 to 15, and no length is greater than the lent buffer's. Assumes nothing.
+-- Which numbers answers have: a refusal 1 to 18, and no length is greater than the lent buffer's. Assumes nothing.
 use Prim.Native.Nat.{ℕ, _+_, _≤_}
 use mathlib.Core.Path.{_≡_, refl}
 use mathlib.Core.Bool.{Bool, true, false, _&&_}
@@ -10,7 +10,7 @@ use lib.Dec.{leb, eqb}
 use lib.ListN.{length}
 use Rattle.floor.specs.Lists.{all}
 use Rattle.floor.specs.Lists.Laws.{and-parts, any-mem, all-mem}
-use Rattle.floor.specs.Jobs.{writeJob}
+use Rattle.floor.specs.Jobs.{writeSized}
 use Rattle.floor.specs.Plans.{Answer, refused, held, writePlan}
 use Rattle.floor.specs.Registers.{register, writeRegister}
 use Rattle.floor.specs.Cuts.{Tree, writeTree, planTree}
@@ -23,9 +23,9 @@ use Rattle.floor.specs.Calls.Exact.{load-answers, turn-answers}
 pub same-refusal : {k l : ℕ} → refusal k ≡ refusal l → k ≡ l
 same-refusal e = cc
 
--- a refusal is one of 1 to 15
+-- a refusal is one of 1 to 18
 abbrev pub Numbered : Reply → Type 0
-Numbered (refusal k) = (1 ≤ k) × (k ≤ 15)
+Numbered (refusal k) = (1 ≤ k) × (k ≤ 18)
 Numbered done = Unit {0}
 Numbered (spans r) = Unit {0}
 Numbered (touch t) = Unit {0}
@@ -58,9 +58,9 @@ among m ks k a o =
     rw q (leb-true 1 x l, leb-true x m h)
 
 -- the reply of a load or a turn, whose refusals are these
-after-told : (b : Board) (x : Answer) (ks : List ℕ) → all (upTo 15) ks ≡ true → Answers ks x → Told 0 (after b x .reply)
+after-told : (b : Board) (x : Answer) (ks : List ℕ) → all (upTo 18) ks ≡ true → Answers ks x → Told 0 (after b x .reply)
 unfolding after refuse
-after-told b (refused k) ks a n = (among 15 ks k a n, tt)
+after-told b (refused k) ks a n = (among 18 ks k a n, tt)
 after-told b (held j p) ks a n = (tt, tt)
 
 -- a question is answered within these bounds, where the answer that it asks for is
@@ -96,14 +96,14 @@ step-told empty (writesCuts buf) = ((omega arith, omega arith), tt)
 step-told (holding j p) (turns u v) = after-told (holding j p) (turn j u v) ofTurn (unfold all in refl) (turn-answers j u v)
 step-told (holding j p) (rectangle v) = asks-told (holding j p) _ _ (tt, tt)
 step-told (holding j p) (touches u v) = asks-told (holding j p) _ _ (tt, tt)
-step-told (holding j p) (writesJob buf) = writes-told (holding j p) _ (writeJob j) buf (leb-true (length (writeJob j)) (length buf))
+step-told (holding j p) (writesJob buf) = writes-told (holding j p) _ (writeSized j) buf (leb-true (length (writeSized j)) (length buf))
 step-told (holding j p) (writesPlan buf) = writes-told (holding j p) _ (writePlan p) buf (leb-true (length (writePlan p)) (length buf))
 step-told (holding j p) (writesRegister buf) =
     writes-told (holding j p) _ (writeRegister (register p)) buf (leb-true (length (writeRegister (register p))) (length buf))
 step-told (holding j p) slices = asks-told (holding j p) _ _ (tt, tt)
 step-told (holding j p) (writesCuts buf) = tree-told (holding j p) (planTree p) buf
 
--- a refusal of any call is one of 1 to 15
+-- a refusal of any call is one of 1 to 18
 pub step-numbered : (b : Board) (c : Call) → Numbered (step b c .reply)
 step-numbered b c = step-told b c .0
 

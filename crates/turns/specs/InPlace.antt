@@ -43,7 +43,7 @@ unfoldable pub twoTurned : Job → ℕ → ℕ → ℕ → Job
 twoTurned j u v t = set (set j (u - 4) (withKind (starOf j u) v t)) (v - 4) (withKind (starOf j v) u (opposite t))
 
 -- the job with it turned
-unfoldable pub turnedJob : Job → Swing → Reading
+unfoldable pub turnedJob : Job → Swing → Reading Job
 turnedJob j (stops k) = fails k
 turnedJob j (swings a b t) = reads (twoTurned j a b t)
 

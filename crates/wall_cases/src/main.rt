@@ -59,11 +59,14 @@ fn show_sheet<'a>(xs: &'a [u16], ys: &'a [u16]) {
 // A name, and the walls of held stars.
 fn show_stars(name: &[u8], stars: Stars) {
     io::write_all(1, name);
+    let sizes = stars::least::none_told();
     let walls = walls::walls_of(
         &stars.ends,
         &stars.nbr,
         &stars.kind,
         fields::wide(stars.count),
+        fields::wide(sizes.told),
+        &sizes.list,
     );
     let answer = walls.answer;
     match answer {
@@ -193,11 +196,14 @@ fn show_twos(job: &[u8]) {
     let mut marks = [0u16; 128];
     mark_all(&mut marks);
     join_stars(&mut marks, stars);
+    let sizes = stars::least::none_told();
     let walls = walls::walls_of(
         &stars.ends,
         &stars.nbr,
         &stars.kind,
         fields::wide(stars.count),
+        fields::wide(sizes.told),
+        &sizes.list,
     );
     let uprights = walls.uprights;
     let numbers = uprights.0;

@@ -1,5 +1,6 @@
 mod Grow
 mod Running
+mod Sizing
 mod Telling
 mod Visiting
 mod Settling

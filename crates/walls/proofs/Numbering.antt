@@ -11,7 +11,7 @@ use lib.ListN.{length, replicate, take, drop, length-replicate}
 use lib.Seq.{length-take-le}
 use Rattle.floor.specs.Lists.{all}
 use Rattle.floor.specs.Lists.Laws.{same-test, and-left, and-right}
-use Rattle.floor.specs.Jobs.{Entry, Job, isVertex, test2}
+use Rattle.floor.specs.Jobs.{Entry, Job, Sizes, isVertex, test2}
 use Rattle.floor.specs.Walls.{Rule, Axis, upright, level, high, rules, jobNumbers}
 use Rattle.floor.specs.Walls.Relax.{Right, right-unique}
 use Rattle.floor.specs.Walls.Rules.{jobNumbers-right}
@@ -59,9 +59,9 @@ module _ (ends nbr kind : List ℕ) (n : ℕ) where
   good = test2 (length job) && vertices job
 
   -- a job that cannot be numbered has no walls with numbers
-  pub none-good : (b : Bool) (w : Walls) → b ≡ good → not b ≡ true → w ≡ noWalls → w ≡ wallsFrom (numbersIn upright job) (numbersIn level job)
+  pub none-good : (z : Sizes) (b : Bool) (w : Walls) → b ≡ good → not b ≡ true → w ≡ noWalls → w ≡ wallsFrom (numbersIn upright job z) (numbersIn level job z)
   unfolding wallsFrom numbersIn
-  none-good b w q f e = let g : good ≡ false = sym q ∙ not-true b f in rw g e
+  none-good z b w q f e = let g : good ≡ false = sym q ∙ not-true b f in rw g e
 
   -- one that was asked can be numbered
   pub is-good : (b : Bool) → b ≡ good → not b ≡ false → good ≡ true
@@ -95,10 +95,6 @@ module _ (ends nbr kind : List ℕ) (n : ℕ) where
         let t : test2 (length job) ≡ true = and-left (test2 (length job)) (vertices job) both-good in
         omega (arith, held-rooms, leb-true (length job) 60 (and-right (leb 1 (length job)) (leb (length job) 60) t))
 
-    -- their number is one of two bytes, with room for one more
-    pub rooms-few : n < 65535
-    rooms-few = omega (arith, rooms-fit)
-
     -- 128 places are enough for all its sides
     pub rooms-hold : (l : List ℕ) → l ≡ replicate 128 0 → 2 * (n + 4) ≤ length l
     rooms-hold l e′ = rw e′ (omega (arith, rooms-fit, length-replicate {A = ℕ} 128 0))
@@ -110,29 +106,28 @@ module _ (ends nbr kind : List ℕ) (n : ℕ) where
         rw held-rooms at (sym (vertices-named job) ∙ v)
 
     -- the job's numbers are those of the definition
-    one-way : (a : Axis) → numbersIn a job ≡ jobNumbers a job
+    one-way : (a : Axis) (z : Sizes) → numbersIn a job z ≡ jobNumbers a job z
     unfolding numbersIn
-    one-way a = rw both-good
+    one-way a z = rw both-good
 
     -- these are right: the numbers by the text, one for each side, or none where the walls run in a circle
-    right : (a : Axis) → Right (rules a job) (2 * (n + 4)) (jobNumbers a job)
-    right a = rw held-rooms at (jobNumbers-right a job (all-named (2 * (n + 4)) job all-vertices (omega (arith, held-rooms))))
+    right : (a : Axis) (z : Sizes) → Right (rules a job z) (2 * (n + 4)) (jobNumbers a job z)
+    right a z = rw held-rooms at (jobNumbers-right a job z (all-named (2 * (n + 4)) job all-vertices (omega (arith, held-rooms))))
 
     -- the answer, left in front of noughts, is the numbers of that direction as they are held
-    pub held-numbers : (a : Axis) (r : Bool) (l l′ : List ℕ) → l ≡ replicate 128 0 → Fronts r (rules a job)
-        (2 * (n + 4)) l l′
-        → record { found = r; list = l′ } ≡ numbersHeld (numbersIn a job)
+    pub held-numbers : (a : Axis) (z : Sizes) (r : Bool) (l l′ : List ℕ) → l ≡ replicate 128 0 → Fronts r (rules a job z) (2 * (n + 4)) l l′
+        → record { found = r; list = l′ } ≡ numbersHeld (numbersIn a job z)
     unfolding numbersHeld
-    held-numbers a r l l′ e x = go r (x .front) (x .answers) (rw e at (x .is))
+    held-numbers a z r l l′ e x = go r (x .front) (x .answers) (rw e at (x .is))
       where
-        go : (b : Bool) (f : List ℕ) → Answers b (rules a job) f (2 * (n + 4)) → l′ ≡ f ++ drop (2 * (n + 4)) (replicate 128 0)
-            → record { found = b; list = l′ } ≡ numbersHeld (numbersIn a job)
-        go true f y z =
-            let u : jobNumbers a job ≡ some f = right-unique (rules a job) (2 * (n + 4)) (jobNumbers a job) (some f) (right a) y in
-            rw (one-way a, u, z, y .1)
-        go false f y z =
-            let u : jobNumbers a job ≡ none = right-unique (rules a job) (2 * (n + 4)) (jobNumbers a job) none (right a) (y .0) in
-            rw (one-way a, u, z, y .1, noughts-behind (2 * (n + 4)) 128 (omega (arith, rooms-fit)))
+        go : (b : Bool) (f : List ℕ) → Answers b (rules a job z) f (2 * (n + 4)) → l′ ≡ f ++ drop (2 * (n + 4)) (replicate 128 0)
+            → record { found = b; list = l′ } ≡ numbersHeld (numbersIn a job z)
+        go true f y e =
+            let u : jobNumbers a job z ≡ some f = right-unique (rules a job z) (2 * (n + 4)) (jobNumbers a job z) (some f) (right a z) y in
+            rw (one-way a z, u, e, y .1)
+        go false f y e =
+            let u : jobNumbers a job z ≡ none = right-unique (rules a job z) (2 * (n + 4)) (jobNumbers a job z) none (right a z) (y .0) in
+            rw (one-way a z, u, e, y .1, noughts-behind (2 * (n + 4)) 128 (omega (arith, rooms-fit)))
 
 -- the first numbers of a list
 pub front-length : (n : ℕ) (l : List ℕ) → n ≤ length l → n ≡ length (take n l)

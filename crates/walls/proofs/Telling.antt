@@ -9,8 +9,8 @@ use lib.Dec.{ltb}
 use lib.ListN.{length, getD}
 use Rattle.floor.specs.Lists.{all}
 use Rattle.floor.specs.Lists.Laws.{and-left, and-right}
-use Rattle.floor.specs.Jobs.{Star, Job}
-use Rattle.floor.specs.Walls.{Rule, same, before, low, high, entryRules, starRules, rulesFrom}
+use Rattle.floor.specs.Jobs.{Star, Job, Sizes}
+use Rattle.floor.specs.Walls.{Rule, same, before, low, high, extra, entryRules, starRules, rulesFrom}
 use Rattle.stars.specs.Held.{toAt, entryAt, cells, startOf, endOf, heldStar, starsIn}
 use Rattle.stars.specs.Pairs.{pair}
 use Rattle.stars.proofs.Holding.{cells-more, cells-done, held-more, held-done}
@@ -18,7 +18,7 @@ use Rattle.walls.specs.declared.Step.{Step}
 use Rattle.walls.specs.declared.Step.the-variants.{Kept}
 use Rattle.walls.specs.declared.Direction.{Direction}
 use Rattle.walls.specs.declared.Direction.the-variants.{Upright, Level}
-use Rattle.walls.specs.Steps.{Ran, both}
+use Rattle.walls.specs.Steps.{Ran, ruleOf, both}
 use Rattle.walls.specs.Jobs.{axisOf, starNamed, named}
 use Rattle.walls.proofs.Running.{ran-both, Going, going-next, going-done}
 
@@ -132,6 +132,11 @@ module _ (nbr kind : List ℕ) (end k m : ℕ) (h : k < end) (e : starNamed m (c
   pub named-later : starNamed m rest ≡ true
   named-later = and-right (ltb (high (toAt nbr k)) m) (starNamed m rest) named-both
 
+-- a gap of one cell and what a room asks for beyond it is the room's own rule
+pub ran-own : (a b x y : ℕ) (s : Step) (f f′ : List ℕ) (top : ℕ) → (x ≡ y) × (x < 255) → Ran s (ruleOf a b (1 + x) ∷ []) f f′ top
+    → Ran s (before a b y ∷ []) f f′ top
+ran-own a b x y s f f′ top e p = let g : 1 + x ≡ suc y = omega (arith, e .0) in rw g at p
+
 -- a room
 module _ (ends nbr kind : List ℕ) (i from end : ℕ) (ef : from ≡ startOf ends (length nbr) i) (ee : end ≡ endOf ends (length nbr) i) where
   -- where the held star names vertices with their sides among so many, so do the entries from its start to its end
@@ -140,12 +145,12 @@ module _ (ends nbr kind : List ℕ) (i from end : ℕ) (ef : from ≡ startOf en
   room-named m l h e = rw (e, ef, ee) h
 
   -- a room's own rule and then those of its entries: together, all the rules that the room says
-  pub ran-room : (w : Direction) (s t r : Step) (f f₁ f₂ : List ℕ) (top : ℕ) → Ran s (before (low (4 + i)) (high (4 + i)) 0 ∷ []) f f₁ top
+  pub ran-room : (w : Direction) (x : ℕ) (s t r : Step) (f f₁ f₂ : List ℕ) (top : ℕ) → Ran s (before (low (4 + i)) (high (4 + i)) x ∷ []) f f₁ top
       → Ran t (starRules (axisOf w) (4 + i) (cells (end - from) from nbr kind)) f₁ f₂ top → r ≡ both s t
-      → Ran r (before (low (4 + i)) (high (4 + i)) 0 ∷ starRules (axisOf w) (4 + i) (heldStar ends nbr kind i)) f f₂ top
+      → Ran r (before (low (4 + i)) (high (4 + i)) x ∷ starRules (axisOf w) (4 + i) (heldStar ends nbr kind i)) f f₂ top
   unfolding heldStar
-  ran-room w s t r f f₁ f₂ top p q e =
-      rw e (ran-both (before (low (4 + i)) (high (4 + i)) 0 ∷ []) (starRules (axisOf w) (4 + i) (heldStar ends nbr kind i)) f f₁ f₂ top s t p
+  ran-room w x s t r f f₁ f₂ top p q e =
+      rw e (ran-both (before (low (4 + i)) (high (4 + i)) x ∷ []) (starRules (axisOf w) (4 + i) (heldStar ends nbr kind i)) f f₁ f₂ top s t p
       (rw (ef, ee) at q))
 
 -- as many sides
@@ -176,24 +181,31 @@ module _ (ends nbr kind : List ℕ) (n i : ℕ) where
     pub rooms-later : named m roomsLater ≡ true
     rooms-later = and-right (starNamed m (heldStar ends nbr kind i)) (named m roomsLater) rooms-both
 
-  module _ (w : Direction) where
+  module _ (w : Direction) (z : Sizes) where
+    -- what room 4 + i says: its own rule and those of its star
+    abbrev roomRules : List Rule
+    roomRules = before (low (4 + i)) (high (4 + i)) (extra (axisOf w) z (4 + i)) ∷ starRules (axisOf w) (4 + i) (heldStar ends nbr kind i)
+
+    -- what the rooms from it on say
+    abbrev rulesLeft : List Rule
+    rulesLeft = rulesFrom (axisOf w) (extra (axisOf w) z) (4 + i) roomsLeft
+
+    -- what the rooms behind it say
+    abbrev rulesLater : List Rule
+    rulesLater = rulesFrom (axisOf w) (extra (axisOf w) z) (4 + (i + 1)) roomsLater
+
     -- the rules from room 4 + i on are its own and those of its star, then those of the rooms behind it
-    rules-more : i < n → rulesFrom (axisOf w) (4 + i) roomsLeft
-        ≡ (before (low (4 + i)) (high (4 + i)) 0 ∷ starRules (axisOf w) (4 + i) (heldStar ends nbr kind i)) ++ rulesFrom (axisOf w) (4 + (i + 1)) roomsLater
+    rules-more : i < n → rulesLeft ≡ roomRules ++ rulesLater
     unfolding rulesFrom
     rules-more h = let e : 4 + (i + 1) ≡ suc (4 + i) = omega arith in rw (held-more ends nbr kind n i h, e)
 
     -- the rules of the next room run, those of the rooms behind it are left
-    pub pass-next : (s t r : Step) (W : List Rule) (f₀ f f₁ : List ℕ) (top : ℕ) → Going s (rulesFrom (axisOf w) (4 + i) roomsLeft) W f₀ f top → i < n
-        → Ran t (before (low (4 + i)) (high (4 + i)) 0 ∷ starRules (axisOf w) (4 + i) (heldStar ends nbr kind i)) f f₁ top → r ≡ both s t
-        → Going r (rulesFrom (axisOf w) (4 + (i + 1)) roomsLater) W f₀ f₁ top
-    pass-next s t r W f₀ f f₁ top g h p e =
-        rw e (going-next s t (before (low (4 + i)) (high (4 + i)) 0 ∷ starRules (axisOf w) (4 + i) (heldStar ends nbr kind i))
-        (rulesFrom (axisOf w) (4 + (i + 1)) roomsLater) W f₀ f f₁ top (rw (rules-more h) at g) p)
+    pub pass-next : (s t r : Step) (W : List Rule) (f₀ f f₁ : List ℕ) (top : ℕ) → Going s rulesLeft W f₀ f top → i < n → Ran t roomRules f f₁ top → r ≡ both s t
+        → Going r rulesLater W f₀ f₁ top
+    pass-next s t r W f₀ f f₁ top g h p e = rw e (going-next s t roomRules rulesLater W f₀ f f₁ top (rw (rules-more h) at g) p)
 
     -- behind the last room no rules are left
-    pub pass-done : (s : Step) (W : List Rule) (f₀ f : List ℕ) (top : ℕ) → Going s (rulesFrom (axisOf w) (4 + i) roomsLeft) W f₀ f top → n ≤ i
-        → Ran s W f₀ f top
+    pub pass-done : (s : Step) (W : List Rule) (f₀ f : List ℕ) (top : ℕ) → Going s rulesLeft W f₀ f top → n ≤ i → Ran s W f₀ f top
     unfolding rulesFrom
     pass-done s W f₀ f top g h = going-done s W f₀ f top (rw (held-done ends nbr kind n i h) at g)
 

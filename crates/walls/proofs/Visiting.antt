@@ -1,5 +1,5 @@
 -- Visits: some rules of a job, wherever they stand. Assumes nothing.
-use mathlib.Core.Path.{_≡_, refl}
+use mathlib.Core.Path.{_≡_, refl, ap}
 use mathlib.Core.Bool.{true}
 use mathlib.Core.List.{List, [], _∷_, List·Memᴰ, List·Memᴰ·head, List·Memᴰ·tail}
 use Prim.Native.Nat.{ℕ, suc, zero, _+_, _-_, _*_, _≤_, _<_}
@@ -8,8 +8,8 @@ use native.Mathlib.Decide.{ℕ-discrete}
 use borrow.Author.Tests.{ltb-true}
 use lib.ListN.{length, getD}
 use Rattle.floor.specs.Lists.Laws.{all-mem, mem-getD}
-use Rattle.floor.specs.Jobs.{Entry, Job}
-use Rattle.floor.specs.Walls.{Rule, before, low, high, entryRules, rules}
+use Rattle.floor.specs.Jobs.{Entry, Job, Sizes, rooms}
+use Rattle.floor.specs.Walls.{Rule, before, low, high, extra, topOf, entryRules, rules}
 use Rattle.floor.specs.Walls.Rules.{Told, Named, entry-every, every-told, job-walk}
 use Rattle.stars.specs.Held.{toAt, entryAt, cells, startOf, endOf, heldStar, jobIn}
 use Rattle.stars.specs.Pairs.{pair}
@@ -18,7 +18,7 @@ use Rattle.walls.specs.declared.Step.{Step}
 use Rattle.walls.specs.declared.Step.the-variants.{Kept}
 use Rattle.walls.specs.declared.Direction.{Direction}
 use Rattle.walls.specs.Steps.{Among, Ran, Climbs, Enough, both}
-use Rattle.walls.specs.Jobs.{axisOf, entryNamed, starNamed, named}
+use Rattle.walls.specs.Jobs.{axisOf, entryNamed, starNamed, named, topOfRooms}
 use Rattle.walls.proofs.Running.{ran-climbs, climbs-both}
 
 -- nothing was done
@@ -47,6 +47,12 @@ cells-mem nbr kind (suc n) from k l h = go (ℕ-discrete k from) (λ a. cells-me
     go (yes e) later = rw e (List·Memᴰ·head refl)
     go (no e) later = List·Memᴰ·tail (later (omega arith))
 
+-- the rules of an entry with a neighbour and a kind that were read at a place are those of the entry there
+pub visit-ran : (nbr kind : List ℕ) (w : Direction) (u k : ℕ) (s : Step) (f f′ : List ℕ) (top v x : ℕ) → v ≡ toAt nbr k → x ≡ getD kind k 0
+    → Ran s (entryRules (axisOf w) u (pair v x)) f f′ top → Ran s (entryRules (axisOf w) u (entryAt nbr kind k)) f f′ top
+unfolding entryAt
+visit-ran nbr kind w u k s f f′ top v x ev ex p = rw (ev, ex) at p
+
 module _ (ends nbr kind : List ℕ) (n : ℕ) where
   -- the job of the held stars
   abbrev job : Job
@@ -66,33 +72,34 @@ module _ (ends nbr kind : List ℕ) (n : ℕ) where
     unfolding entryAt
     visit-named m v x b e q = rw (e, q) (named-entry m job b i (omega (arith, length-stars n 0 ends nbr kind)) (entryAt nbr kind k) here)
 
-    -- its rules are among those of the job
-    among : (w : Direction) → Among (entryRules (axisOf w) (4 + i) (entryAt nbr kind k)) (rules (axisOf w) job)
-    among w =
-        let t : Told (λ r. List·Memᴰ r (rules (axisOf w) job)) (axisOf w) 4 job = every-told (λ r. List·Memᴰ r (rules (axisOf w) job)) (axisOf w) 4 job
-        (λ r m. m) in
-        entry-every (λ r. List·Memᴰ r (rules (axisOf w) job)) (axisOf w) (4 + i) (entryAt nbr kind k)
-        (t .each i (omega (arith, length-stars n 0 ends nbr kind)) (entryAt nbr kind k) here)
+  -- what the job says is among its rules
+  module _ (w : Direction) (z : Sizes) where
+    -- it is a rule of the job
+    abbrev Ours : Rule → Type 0
+    Ours r = List·Memᴰ r (rules (axisOf w) job z)
 
-    -- its rules, run, are some rules of the job run
-    pub visit-climbs : (w : Direction) (s : Step) (f f′ : List ℕ) (top v x : ℕ) → v ≡ toAt nbr k → x ≡ getD kind k 0
-        → Ran s (entryRules (axisOf w) (4 + i) (pair v x)) f f′ top → Climbs s (rules (axisOf w) job) f f′ top
-    unfolding entryAt
-    visit-climbs w s f f′ top v x ev ex p =
-        ran-climbs (entryRules (axisOf w) (4 + i) (entryAt nbr kind k)) (rules (axisOf w) job) f f′ top s (among w) (rw (ev, ex) at p)
+    -- all that its rooms say is
+    all-told : Told Ours (axisOf w) (extra (axisOf w) z) 4 job
+    all-told = every-told Ours (axisOf w) (extra (axisOf w) z) 4 job (λ r m. m)
 
-  -- a room's own rule, run, is some rule of the job run
-  pub own-climbs : (w : Direction) (i : ℕ) (s : Step) (f f′ : List ℕ) (top : ℕ) → i < n → Ran s (before (low (4 + i)) (high (4 + i)) 0 ∷ []) f f′ top
-      → Climbs s (rules (axisOf w) job) f f′ top
-  own-climbs w i s f f′ top h p =
-      let t : Told (λ r. List·Memᴰ r (rules (axisOf w) job)) (axisOf w) 4 job = every-told (λ r. List·Memᴰ r (rules (axisOf w) job)) (axisOf w) 4 job
-      (λ r m. m) in
-      ran-climbs (before (low (4 + i)) (high (4 + i)) 0 ∷ []) (rules (axisOf w) job) f f′ top s
-      (only (t .own i (omega (arith, length-stars n 0 ends nbr kind)))) p
-    where
-      only : List·Memᴰ (before (low (4 + i)) (high (4 + i)) 0) (rules (axisOf w) job)
-          → Among (before (low (4 + i)) (high (4 + i)) 0 ∷ []) (rules (axisOf w) job)
-      only m r (List·Memᴰ·head e) = rw e m
+    -- the rules of an entry, run, are some rules of the job run
+    pub visit-climbs : (i k : ℕ) (s : Step) (f f′ : List ℕ) (top : ℕ) → i < n → startOf ends (length nbr) i ≤ k → k < endOf ends (length nbr) i
+        → Ran s (entryRules (axisOf w) (4 + i) (entryAt nbr kind k)) f f′ top → Climbs s (rules (axisOf w) job z) f f′ top
+    visit-climbs i k s f f′ top h lf le p =
+        ran-climbs (entryRules (axisOf w) (4 + i) (entryAt nbr kind k)) (rules (axisOf w) job z) f f′ top s
+        (entry-every Ours (axisOf w) (4 + i) (entryAt nbr kind k)
+        (all-told .each i (omega (arith, length-stars n 0 ends nbr kind)) (entryAt nbr kind k) (here i k h lf le))) p
+
+    -- a room's own rule, run, is some rule of the job run
+    pub own-climbs : (i : ℕ) (s : Step) (f f′ : List ℕ) (top : ℕ) → i < n
+        → Ran s (before (low (4 + i)) (high (4 + i)) (extra (axisOf w) z (4 + i)) ∷ []) f f′ top → Climbs s (rules (axisOf w) job z) f f′ top
+    own-climbs i s f f′ top h p =
+        ran-climbs (before (low (4 + i)) (high (4 + i)) (extra (axisOf w) z (4 + i)) ∷ []) (rules (axisOf w) job z) f f′ top s
+        (only (all-told .own i (omega (arith, length-stars n 0 ends nbr kind)))) p
+      where
+        only : Ours (before (low (4 + i)) (high (4 + i)) (extra (axisOf w) z (4 + i)))
+            → Among (before (low (4 + i)) (high (4 + i)) (extra (axisOf w) z (4 + i)) ∷ []) (rules (axisOf w) job z)
+        only m r (List·Memᴰ·head e) = rw e m
 
 -- and one visit more
 pub climbs-more : (E : List Rule) (f f₁ f₂ : List ℕ) (top : ℕ) (s t r : Step) → Climbs s E f f₁ top → Climbs t E f₁ f₂ top → r ≡ both s t
@@ -107,10 +114,12 @@ place-low ends most i start k e h = rw (← e) h
 pub place-high : (ends : List ℕ) (most i end k : ℕ) → end ≡ endOf ends most i → k < end → k < endOf ends most i
 place-high ends most i end k e h = rw (← e) h
 
--- where numbers can be put on a job's walls, no walk passes n + 1
-pub job-enough : (ends nbr kind : List ℕ) (n m top : ℕ) (w : Direction) → named m (jobIn n ends nbr kind) ≡ true → m ≡ 2 * (n + 4) → top ≡ n + 1
-    → Enough (rules (axisOf w) (jobIn n ends nbr kind)) top
-job-enough ends nbr kind n m top w b e q g r s v walk =
+-- where numbers can be put on a job's walls, no walk passes the top of its rooms
+pub job-enough : (ends nbr kind : List ℕ) (n m top : ℕ) (w : Direction) (z : Sizes) → named m (jobIn n ends nbr kind) ≡ true → m ≡ 2 * (n + 4)
+    → top ≡ topOfRooms (axisOf w) n z → Enough (rules (axisOf w) (jobIn n ends nbr kind) z) top
+unfolding topOfRooms topOf rooms
+job-enough ends nbr kind n m top w z b e q g r s v walk =
     let j : Job = jobIn n ends nbr kind in
     let l : length j ≡ n = length-stars n 0 ends nbr kind in
-    omega (arith, job-walk (axisOf w) j (all-named m j b (omega arith)) g r s v walk)
+    let k : topOf (axisOf w) j z ≡ topOfRooms (axisOf w) n z = ap (λ (x : ℕ). topOfRooms (axisOf w) x z) l in
+    omega (arith, k, q, job-walk (axisOf w) j z (all-named m j b (omega arith)) g r s v walk)

@@ -5,7 +5,7 @@ use mathlib.Core.List.{List, _++_}
 use Prim.Native.Nat.{ℕ, _+_}
 use lib.ListN.{length, getD, replicate, drop}
 use Rattle.floor.specs.Lists.{all}
-use Rattle.floor.specs.Jobs.{Entry, Job, isVertex, test2}
+use Rattle.floor.specs.Jobs.{Entry, Job, Sizes, isVertex, test2}
 use Rattle.floor.specs.Walls.{Axis, upright, level, low, high, jobNumbers}
 use Rattle.walls.specs.declared.Answer.{Answer}
 use Rattle.walls.specs.declared.Answer.the-variants.{Numbered, Circle}
@@ -19,8 +19,8 @@ unfoldable pub vertices : Job → Bool
 vertices j = all (all (λ (e : Entry). isVertex j (e .to))) j
 
 -- THE NUMBERS OF ANY JOB in one direction: those of the definition where it has as many rooms as test 2 allows and its neighbours are vertices, and else none
-unfoldable pub numbersIn : Axis → Job → Option (List ℕ)
-numbersIn a j = cond (test2 (length j) && vertices j) (jobNumbers a j) none
+unfoldable pub numbersIn : Axis → Job → Sizes → Option (List ℕ)
+numbersIn a j z = cond (test2 (length j) && vertices j) (jobNumbers a j z) none
 
 -- noughts
 abbrev pub noughts : List ℕ
@@ -50,9 +50,9 @@ wallsFrom (some f) (some g) = record { answer = Numbered; uprights = record { 0 
 wallsFrom (some f) none = noWalls
 wallsFrom none b = noWalls
 
--- THE WALLS OF ANY JOB
-unfoldable pub wallsOf : Job → Walls
-wallsOf j = wallsFrom (numbersIn upright j) (numbersIn level j)
+-- THE WALLS OF ANY JOB, with any sizes
+unfoldable pub wallsOf : Job → Sizes → Walls
+wallsOf j z = wallsFrom (numbersIn upright j z) (numbersIn level j z)
 
 -- the walls on the four sides of a vertex, by the upright numbers and the level ones
 abbrev pub sidesAt : List ℕ → List ℕ → ℕ → Sides

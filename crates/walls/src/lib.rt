@@ -1,18 +1,19 @@
-// The walls of held stars and their numbers: passes over the rules, until every rule is met or a number is too large.
+// The walls of held stars, with their rooms' least sizes, and their numbers: passes over the rules, until every rule is met or a number is too large.
 ghost use mathlib.Core.Path.{_≡_};
 ghost use mathlib.Core.Bool.{true, _&&_};
-ghost use Prim.Native.Nat.{_+_, _*_, _≤_, _<_};
-ghost use lib.Dec.{leb};
+ghost use Prim.Native.Nat.{_+_, _*_, _≤_};
 ghost use lib.ListN.{length, getD, replicate};
 ghost use Rattle.floor.specs.Jobs.{test2};
 ghost use Rattle.floor.specs.Walls.{rules};
 ghost use Rattle.stars.specs.Held.{jobIn};
+ghost use Rattle.stars.specs.Sized.{sizesIn};
 ghost use Rattle.walls.specs.Jobs.{axisOf, named};
 ghost use Rattle.walls.specs.Steps.{Fronts};
 ghost use Rattle.walls.specs.Numbers.{vertices, numbersIn, numbersHeld, noWalls, wallsOf, sidesAt, sheetAt};
 
 mod steps; // steps.rt: one rule, and what it does to the numbers
 mod rules; // rules.rt: the rules of an entry, a star, a room, a job
+mod least; // least.rt: how much more than one cell rooms ask for
 mod vertices; // vertices.rt: whether every neighbour is a vertex of the job
 mod number; // number.rt: the numbers in one direction
 
@@ -103,14 +104,26 @@ fn number_front<'a>(
     nbr: &'a [u16],
     kind: &'a [u8],
     count: usize,
+    told: usize,
+    sizes: &'a [u8],
     parts: &'a [u16],
 ) -> bool
-    requires { ⌜ (count < 65535) × (2 * (count + 4) ≤ length (now list)) × (named (2 * (count + 4)) (jobIn count (now ends) (now nbr) (now kind)) ≡ true) ⌝ }
-    ensures { λ r. ⌜ Fronts r (rules (axisOf way) (jobIn count (now (ends .entry)) (now (nbr .entry)) (now (kind .entry))))
+    requires { ⌜ (count ≤ 60) × (2 * (count + 4) ≤ length (now list)) × (named (2 * (count + 4)) (jobIn count (now ends) (now nbr) (now kind)) ≡ true) ⌝ }
+    ensures { λ r. ⌜ Fronts r (rules (axisOf way) (jobIn count (now (ends .entry)) (now (nbr .entry)) (now (kind .entry))) (sizesIn told (now (sizes .entry))))
         (2 * (count + 4)) (now (list .entry)) (now (list .exit)) ⌝ }
 {
     let sides = 2 * (count + 4);
-    number::number(&mut list[..sides], way, ends, nbr, kind, count, parts)
+    number::number(
+        &mut list[..sides],
+        way,
+        ends,
+        nbr,
+        kind,
+        count,
+        told,
+        sizes,
+        parts,
+    )
 }
 
 // The numbers in one direction, of a job that can be numbered.
@@ -119,14 +132,16 @@ fn numbers_in<'a>(
     nbr: &'a [u16],
     kind: &'a [u8],
     count: usize,
+    told: usize,
+    sizes: &'a [u8],
     parts: &'a [u16],
     way: Direction,
 ) -> Numbers
     requires { ⌜ (test2 (length (jobIn count (now ends) (now nbr) (now kind))) && vertices (jobIn count (now ends) (now nbr) (now kind))) ≡ true ⌝ }
-    ensures { λ r. ⌜ r ≡ numbersHeld (numbersIn (axisOf way) (jobIn count (now (ends .entry)) (now (nbr .entry)) (now (kind .entry)))) ⌝ }
+    ensures { λ r. ⌜ r ≡ numbersHeld (numbersIn (axisOf way) (jobIn count (now (ends .entry)) (now (nbr .entry)) (now (kind .entry))) (sizesIn told (now (sizes .entry)))) ⌝ }
 {
     let mut list = noughts();
-    let found = number_front(&mut list, way, ends, nbr, kind, count, parts);
+    let found = number_front(&mut list, way, ends, nbr, kind, count, told, sizes, parts);
     Numbers {
         found: found,
         list: list,
@@ -145,20 +160,45 @@ fn no_walls() -> Walls
     }
 }
 
-// The numbers in both directions, or that the walls run in a circle.
-pub fn walls_of<'a>(ends: &'a [u16], nbr: &'a [u16], kind: &'a [u8], count: usize) -> Walls
-    ensures { λ r. ⌜ r ≡ wallsOf (jobIn count (now (ends .entry)) (now (nbr .entry)) (now (kind .entry))) ⌝ }
+// The numbers in both directions, of rooms with these least sizes, or that the walls run in a circle.
+pub fn walls_of<'a>(
+    ends: &'a [u16],
+    nbr: &'a [u16],
+    kind: &'a [u8],
+    count: usize,
+    told: usize,
+    sizes: &'a [u8],
+) -> Walls
+    ensures { λ r. ⌜ r ≡ wallsOf (jobIn count (now (ends .entry)) (now (nbr .entry)) (now (kind .entry))) (sizesIn told (now (sizes .entry))) ⌝ }
 {
     if !can_number(ends, nbr, kind, count) {
         return no_walls();
     }
     let mut parts = [0u16; 256];
     orders::note_parts(&mut parts, ends, kind, nbr.len(), count);
-    let upright = numbers_in(ends, nbr, kind, count, &parts, Direction::Upright);
+    let upright = numbers_in(
+        ends,
+        nbr,
+        kind,
+        count,
+        told,
+        sizes,
+        &parts,
+        Direction::Upright,
+    );
     if !upright.found {
         return no_walls();
     }
-    let level = numbers_in(ends, nbr, kind, count, &parts, Direction::Level);
+    let level = numbers_in(
+        ends,
+        nbr,
+        kind,
+        count,
+        told,
+        sizes,
+        &parts,
+        Direction::Level,
+    );
     if !level.found {
         return no_walls();
     }

@@ -3,10 +3,11 @@ ghost use mathlib.Core.Path.{_≡_};
 ghost use mathlib.Core.Bool.{true};
 ghost use Prim.Native.Nat.{_+_, _*_, _≤_, _<_};
 ghost use lib.ListN.{length, replicate};
-ghost use Rattle.floor.specs.Walls.{rules};
+ghost use Rattle.floor.specs.Walls.{entryRules, rules};
 ghost use Rattle.floor.specs.Walls.Relax.{Reached};
-ghost use Rattle.stars.specs.Held.{startOf, endOf, jobIn};
-ghost use Rattle.walls.specs.Steps.{Answers, Capped, Climbs, Enough};
+ghost use Rattle.stars.specs.Held.{entryAt, startOf, endOf, jobIn};
+ghost use Rattle.stars.specs.Sized.{sizesIn};
+ghost use Rattle.walls.specs.Steps.{Answers, Capped, Climbs, Enough, Ran};
 ghost use Rattle.walls.specs.Jobs.{axisOf, named};
 use crate::Direction;
 use crate::Step;
@@ -30,16 +31,18 @@ fn settle<'a>(
     nbr: &'a [u16],
     kind: &'a [u8],
     count: usize,
+    told: usize,
+    sizes: &'a [u8],
     top: u16,
 ) -> bool
     requires { ⌜ (count < 65535) × (length (now f) ≡ 2 * (count + 4)) × (named (length (now f)) (jobIn count (now ends) (now nbr) (now kind)) ≡ true)
-        × Enough (rules (axisOf way) (jobIn count (now ends) (now nbr) (now kind))) top
-        × Reached (rules (axisOf way) (jobIn count (now ends) (now nbr) (now kind))) (now f) × Capped (now f) top ⌝ }
-    ensures { λ r. ⌜ Answers r (rules (axisOf way) (jobIn count (now (ends .entry)) (now (nbr .entry)) (now (kind .entry))))
+        × Enough (rules (axisOf way) (jobIn count (now ends) (now nbr) (now kind)) (sizesIn told (now sizes))) top
+        × Reached (rules (axisOf way) (jobIn count (now ends) (now nbr) (now kind)) (sizesIn told (now sizes))) (now f) × Capped (now f) top ⌝ }
+    ensures { λ r. ⌜ Answers r (rules (axisOf way) (jobIn count (now (ends .entry)) (now (nbr .entry)) (now (kind .entry))) (sizesIn told (now (sizes .entry))))
         (now (f .exit)) (length (now (f .entry))) ⌝ }
 {
     loop {
-        let did = crate::rules::pass(f, way, ends, nbr, kind, count, top);
+        let did = crate::rules::pass(f, way, ends, nbr, kind, count, told, sizes, top);
         match did {
             Step::Kept => {
                 return true;
@@ -67,8 +70,7 @@ fn visit_entry<'a>(
 ) -> Step
     requires { ⌜ (count < 65535) × (length (now f) ≡ 2 * (count + 4)) × (named (length (now f)) (jobIn count (now ends) (now nbr) (now kind)) ≡ true)
         × (i < count) × (startOf (now ends) (length (now nbr)) i ≤ k) × (k < endOf (now ends) (length (now nbr)) i) ⌝ }
-    ensures { λ r. ⌜ Climbs r (rules (axisOf way) (jobIn count (now (ends .entry)) (now (nbr .entry)) (now (kind .entry))))
-        (now (f .entry)) (now (f .exit)) top ⌝ }
+    ensures { λ r. ⌜ Ran r (entryRules (axisOf way) (4 + i) (entryAt (now (nbr .entry)) (now (kind .entry)) k)) (now (f .entry)) (now (f .exit)) top ⌝ }
 {
     let this = stars::held::kind_at(kind, k);
     let v = stars::held::to_at(nbr, k);
@@ -83,19 +85,21 @@ fn visit<'a>(
     nbr: &'a [u16],
     kind: &'a [u8],
     count: usize,
+    told: usize,
+    sizes: &'a [u8],
     i: usize,
     k: usize,
     top: u16,
 ) -> Step
     requires { ⌜ (count < 65535) × (length (now f) ≡ 2 * (count + 4)) × (named (length (now f)) (jobIn count (now ends) (now nbr) (now kind)) ≡ true) ⌝ }
-    ensures { λ r. ⌜ Climbs r (rules (axisOf way) (jobIn count (now (ends .entry)) (now (nbr .entry)) (now (kind .entry))))
+    ensures { λ r. ⌜ Climbs r (rules (axisOf way) (jobIn count (now (ends .entry)) (now (nbr .entry)) (now (kind .entry))) (sizesIn told (now (sizes .entry))))
         (now (f .entry)) (now (f .exit)) top ⌝ }
 {
     if count <= i {
         return Step::Kept;
     }
     if k == 65535 {
-        return crate::steps::apply(f, 2 * (4 + i), 2 * (4 + i) + 1, 1, top);
+        return crate::rules::own(f, way, told, sizes, i, top);
     }
     if k < stars::held::start_of(ends, nbr.len(), i) {
         return Step::Kept;
@@ -135,13 +139,15 @@ fn climb<'a>(
     nbr: &'a [u16],
     kind: &'a [u8],
     count: usize,
+    told: usize,
+    sizes: &'a [u8],
     visits: &'a [u16],
     from: usize,
     to: usize,
     top: u16,
 ) -> Step
     requires { ⌜ (count < 65535) × (length (now f) ≡ 2 * (count + 4)) × (named (length (now f)) (jobIn count (now ends) (now nbr) (now kind)) ≡ true) ⌝ }
-    ensures { λ r. ⌜ Climbs r (rules (axisOf way) (jobIn count (now (ends .entry)) (now (nbr .entry)) (now (kind .entry))))
+    ensures { λ r. ⌜ Climbs r (rules (axisOf way) (jobIn count (now (ends .entry)) (now (nbr .entry)) (now (kind .entry))) (sizesIn told (now (sizes .entry))))
         (now (f .entry)) (now (f .exit)) top ⌝ }
 {
     let mut done = Step::Kept;
@@ -149,7 +155,7 @@ fn climb<'a>(
     while at < to {
         let i = number_at(visits, at);
         let k = number_at(visits, at + 1);
-        let did = visit(f, way, ends, nbr, kind, count, i, k, top);
+        let did = visit(f, way, ends, nbr, kind, count, told, sizes, i, k, top);
         done = crate::steps::both_of(done, did);
         at = two_on(at, to);
     }
@@ -176,19 +182,34 @@ fn go_round<'a>(
     nbr: &'a [u16],
     kind: &'a [u8],
     count: usize,
+    told: usize,
+    sizes: &'a [u8],
     visits: &'a [u16],
     from: usize,
     to: usize,
     top: u16,
 ) -> Step
     requires { ⌜ (count < 65535) × (length (now f) ≡ 2 * (count + 4)) × (named (length (now f)) (jobIn count (now ends) (now nbr) (now kind)) ≡ true) ⌝ }
-    ensures { λ r. ⌜ Climbs r (rules (axisOf way) (jobIn count (now (ends .entry)) (now (nbr .entry)) (now (kind .entry))))
+    ensures { λ r. ⌜ Climbs r (rules (axisOf way) (jobIn count (now (ends .entry)) (now (nbr .entry)) (now (kind .entry))) (sizesIn told (now (sizes .entry))))
         (now (f .entry)) (now (f .exit)) top ⌝ }
 {
     let mut done = Step::Kept;
     let mut left: u16 = if from < to { top } else { 0 };
     while 0 < left {
-        let did = climb(f, way, ends, nbr, kind, count, visits, from, to, top);
+        let did = climb(
+            f,
+            way,
+            ends,
+            nbr,
+            kind,
+            count,
+            told,
+            sizes,
+            visits,
+            from,
+            to,
+            top,
+        );
         done = crate::steps::both_of(done, did);
         left = rounds_after(done, left);
     }
@@ -203,17 +224,45 @@ fn climb_both<'a>(
     nbr: &'a [u16],
     kind: &'a [u8],
     count: usize,
+    told: usize,
+    sizes: &'a [u8],
     visits: &'a [u16],
     again: usize,
     many: usize,
     top: u16,
 ) -> Step
     requires { ⌜ (count < 65535) × (length (now f) ≡ 2 * (count + 4)) × (named (length (now f)) (jobIn count (now ends) (now nbr) (now kind)) ≡ true) ⌝ }
-    ensures { λ r. ⌜ Climbs r (rules (axisOf way) (jobIn count (now (ends .entry)) (now (nbr .entry)) (now (kind .entry))))
+    ensures { λ r. ⌜ Climbs r (rules (axisOf way) (jobIn count (now (ends .entry)) (now (nbr .entry)) (now (kind .entry))) (sizesIn told (now (sizes .entry))))
         (now (f .entry)) (now (f .exit)) top ⌝ }
 {
-    let once = climb(f, way, ends, nbr, kind, count, visits, 0, many, top);
-    let round = go_round(f, way, ends, nbr, kind, count, visits, again, many, top);
+    let once = climb(
+        f,
+        way,
+        ends,
+        nbr,
+        kind,
+        count,
+        told,
+        sizes,
+        visits,
+        0,
+        many,
+        top,
+    );
+    let round = go_round(
+        f,
+        way,
+        ends,
+        nbr,
+        kind,
+        count,
+        told,
+        sizes,
+        visits,
+        again,
+        many,
+        top,
+    );
     crate::steps::both_of(once, round)
 }
 
@@ -255,11 +304,13 @@ fn climb_all<'a>(
     nbr: &'a [u16],
     kind: &'a [u8],
     count: usize,
+    told: usize,
+    sizes: &'a [u8],
     parts: &'a [u16],
     top: u16,
 ) -> Step
     requires { ⌜ (count < 65535) × (length (now f) ≡ 2 * (count + 4)) × (named (length (now f)) (jobIn count (now ends) (now nbr) (now kind)) ≡ true) ⌝ }
-    ensures { λ r. ⌜ Climbs r (rules (axisOf way) (jobIn count (now (ends .entry)) (now (nbr .entry)) (now (kind .entry))))
+    ensures { λ r. ⌜ Climbs r (rules (axisOf way) (jobIn count (now (ends .entry)) (now (nbr .entry)) (now (kind .entry))) (sizesIn told (now (sizes .entry))))
         (now (f .entry)) (now (f .exit)) top ⌝ }
 {
     let mut sheet = [0u16; 1024];
@@ -267,7 +318,20 @@ fn climb_all<'a>(
     let span = order_for(way, ends, nbr, kind, count, parts, &mut sheet, &mut visits);
     let many = span.many;
     let again = span.again;
-    climb_both(f, way, ends, nbr, kind, count, &visits, again, many, top)
+    climb_both(
+        f,
+        way,
+        ends,
+        nbr,
+        kind,
+        count,
+        told,
+        sizes,
+        &visits,
+        again,
+        many,
+        top,
+    )
 }
 
 // The numbers of the text, left in f; or false where the walls run in a circle, and noughts.
@@ -278,18 +342,20 @@ pub fn number<'a>(
     nbr: &'a [u16],
     kind: &'a [u8],
     count: usize,
+    told: usize,
+    sizes: &'a [u8],
     parts: &'a [u16],
 ) -> bool
-    requires { ⌜ (count < 65535) × (length (now f) ≡ 2 * (count + 4)) × (named (length (now f)) (jobIn count (now ends) (now nbr) (now kind)) ≡ true) ⌝ }
-    ensures { λ r. ⌜ Answers r (rules (axisOf way) (jobIn count (now (ends .entry)) (now (nbr .entry)) (now (kind .entry))))
+    requires { ⌜ (count ≤ 60) × (length (now f) ≡ 2 * (count + 4)) × (named (length (now f)) (jobIn count (now ends) (now nbr) (now kind)) ≡ true) ⌝ }
+    ensures { λ r. ⌜ Answers r (rules (axisOf way) (jobIn count (now (ends .entry)) (now (nbr .entry)) (now (kind .entry))) (sizesIn told (now (sizes .entry))))
         (now (f .exit)) (length (now (f .entry))) ⌝ }
 {
-    let top = (count + 1) as u16;
+    let top = crate::least::top_of(way, count, told, sizes);
     fill(f, 1);
-    let did = climb_all(f, way, ends, nbr, kind, count, parts, top);
+    let did = climb_all(f, way, ends, nbr, kind, count, told, sizes, parts, top);
     if crate::steps::is_over(did) {
         fill(f, 0);
         return false;
     }
-    settle(f, way, ends, nbr, kind, count, top)
+    settle(f, way, ends, nbr, kind, count, told, sizes, top)
 }

@@ -4,9 +4,10 @@ ghost use mathlib.Core.Bool.{true};
 ghost use mathlib.Core.List.{[], _∷_};
 ghost use Prim.Native.Nat.{_+_, _-_, _*_, _<_};
 ghost use lib.ListN.{length};
-ghost use Rattle.floor.specs.Walls.{before, low, high, entryRules, starRules, rules};
+ghost use Rattle.floor.specs.Walls.{before, low, high, extra, entryRules, starRules, rules};
 ghost use Rattle.stars.specs.Held.{cells, heldStar, jobIn};
 ghost use Rattle.stars.specs.Pairs.{pair};
+ghost use Rattle.stars.specs.Sized.{sizesIn};
 ghost use Rattle.walls.specs.Steps.{Ran};
 ghost use Rattle.walls.specs.Jobs.{axisOf, named, starNamed};
 use crate::Direction;
@@ -97,26 +98,39 @@ fn star<'a>(
     done
 }
 
-// The rules of room 4 + i: its low wall before its high wall, and its star.
+// Room 4 + i's own rule: its low wall before its high wall, by its least size.
+pub fn own(f: &mut [u16], way: Direction, told: usize, sizes: &[u8], i: usize, top: u16) -> Step
+    requires { ⌜ (i < 65535) × (high (4 + i) < length (now f)) ⌝ }
+    ensures { λ r. ⌜ Ran r (before (low (4 + i)) (high (4 + i)) (extra (axisOf way) (sizesIn told (now (sizes .entry))) (4 + i)) ∷ [])
+        (now (f .entry)) (now (f .exit)) top ⌝ }
+{
+    let u = 4 + i;
+    let gap = 1 + crate::least::extra_at(told, sizes, i, way);
+    crate::steps::apply(f, 2 * u, 2 * u + 1, gap, top)
+}
+
+// The rules of room 4 + i: its own, and its star.
 fn room<'a>(
     f: &mut [u16],
     way: Direction,
     ends: &'a [u16],
     nbr: &'a [u16],
     kind: &'a [u8],
+    told: usize,
+    sizes: &'a [u8],
     i: usize,
     top: u16,
 ) -> Step
     requires { ⌜ (i < 65535) × (high (4 + i) < length (now f)) × (starNamed (length (now f)) (heldStar (now ends) (now nbr) (now kind) i) ≡ true) ⌝ }
-    ensures { λ r. ⌜ Ran r (before (low (4 + i)) (high (4 + i)) 0 ∷ starRules (axisOf way) (4 + i) (heldStar (now (ends .entry)) (now (nbr .entry)) (now (kind .entry)) i))
+    ensures { λ r. ⌜ Ran r (before (low (4 + i)) (high (4 + i)) (extra (axisOf way) (sizesIn told (now (sizes .entry))) (4 + i))
+        ∷ starRules (axisOf way) (4 + i) (heldStar (now (ends .entry)) (now (nbr .entry)) (now (kind .entry)) i))
         (now (f .entry)) (now (f .exit)) top ⌝ }
 {
-    let u = 4 + i;
-    let own = crate::steps::apply(f, 2 * u, 2 * u + 1, 1, top);
+    let first = own(f, way, told, sizes, i, top);
     let from = stars::held::start_of(ends, nbr.len(), i);
     let end = stars::held::end_of(ends, nbr.len(), i);
-    let rest = star(f, way, nbr, kind, u, from, end, top);
-    crate::steps::both_of(own, rest)
+    let rest = star(f, way, nbr, kind, 4 + i, from, end, top);
+    crate::steps::both_of(first, rest)
 }
 
 // One pass: the rules of every room.
@@ -127,16 +141,18 @@ pub fn pass<'a>(
     nbr: &'a [u16],
     kind: &'a [u8],
     count: usize,
+    told: usize,
+    sizes: &'a [u8],
     top: u16,
 ) -> Step
     requires { ⌜ (count < 65535) × (length (now f) ≡ 2 * (count + 4)) × (named (length (now f)) (jobIn count (now ends) (now nbr) (now kind)) ≡ true) ⌝ }
-    ensures { λ r. ⌜ Ran r (rules (axisOf way) (jobIn count (now (ends .entry)) (now (nbr .entry)) (now (kind .entry))))
+    ensures { λ r. ⌜ Ran r (rules (axisOf way) (jobIn count (now (ends .entry)) (now (nbr .entry)) (now (kind .entry))) (sizesIn told (now (sizes .entry))))
         (now (f .entry)) (now (f .exit)) top ⌝ }
 {
     let mut done = Step::Kept;
     let mut i: usize = 0;
     while i < count {
-        let did = room(f, way, ends, nbr, kind, i, top);
+        let did = room(f, way, ends, nbr, kind, told, sizes, i, top);
         done = crate::steps::both_of(done, did);
         i += 1;
     }

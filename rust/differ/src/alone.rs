@@ -2,7 +2,7 @@
 //! size, or with a gap alone, so some of each item are kept here, found by a search. No job can fail "inside the sheet" alone: each
 //! room's walls are numbered between the frame's.
 
-use floors::{renumbered, restarted, Chance};
+use floors::{renumbered, restarted, some_sizes, Chance};
 use reference::job::{read, Job};
 
 const KEPT: [&str; 12] = [
@@ -25,10 +25,11 @@ const KEPT: [&str; 12] = [
     "010001080200080000010102020703020008000008010202030302000800000b01090208030200080000040102020a0302000a0000090106010202050302000806000b01020208030200080000070102020b0302000a00000a01020206030903",
 ];
 
-/// One of them, its rooms numbered and its stars started at random.
+/// One of them, a third with sizes, its rooms numbered and its stars started at random.
 pub fn undrawable(chance: &mut Chance) -> Job {
     let kept = *chance.pick(&KEPT);
     let job = read(&bytes_of(kept)).expect("a kept job passes tests 1 to 6");
+    let job = some_sizes(chance, job);
     let job = renumbered(chance, &job);
     restarted(chance, job)
 }

@@ -1,10 +1,11 @@
-//! Jobs of every sort: floors as they are, floors damaged in many ways, limits, and mere garbage.
+//! Jobs of every sort: floors as they are, floors damaged in many ways, limits, and mere garbage. A third of them have least sizes.
 
 use crate::alone::undrawable;
 use crate::circle::{gap, inserting, kinds_of, list};
+use crate::misfits::{change_sizes, misfit};
 use crate::rounds::go_round_wrongly;
-use floors::Chance;
 use floors::{any_floor, floor_of, renumbered, restarted, turned_at_random, MOST_ROOMS};
+use floors::{oversized, some_sizes, Chance};
 use reference::fields::put_field;
 use reference::job::{Entry, Job};
 use reference::{opposite, ABOVE, FIRST_ROOM, RIGHT};
@@ -13,10 +14,12 @@ use reference::{opposite, ABOVE, FIRST_ROOM, RIGHT};
 pub fn any_job(chance: &mut Chance) -> Vec<u8> {
     match chance.below(100) {
         0..=29 => finished_floor(chance).bytes(),
-        30..=70 => damaged_job(chance).bytes(),
-        71..=74 => undrawable(chance).bytes(),
-        75..=84 => damaged_bytes(chance),
-        85..=91 => scattered(chance).bytes(),
+        30..=67 => damaged_job(chance).bytes(),
+        68..=71 => undrawable(chance).bytes(),
+        72..=79 => damaged_bytes(chance),
+        80..=83 => misfit(chance),
+        84..=85 => too_large(chance).bytes(),
+        86..=91 => scattered(chance).bytes(),
         92..=94 => garbage(chance),
         _ => at_the_limits(chance),
     }
@@ -32,21 +35,42 @@ pub fn job_of_stars(chance: &mut Chance) -> Job {
     }
 }
 
-/// A floor from geometry, some contacts turned, its rooms numbered and its stars started at random.
+/// A floor from geometry, some contacts turned, a third with sizes, its rooms numbered and its stars started at random.
 pub fn finished_floor(chance: &mut Chance) -> Job {
     let floor = any_floor(chance);
     let floor = turned_at_random(chance, floor);
+    let floor = some_sizes(chance, floor);
     let floor = renumbered(chance, &floor);
     restarted(chance, floor)
 }
 
 /// The stars are started elsewhere before and behind the damages, so that these meet a list that runs over the start.
-fn damaged_job(chance: &mut Chance) -> Job {
-    let mut job = finished_floor(chance);
+pub fn damaged_job(chance: &mut Chance) -> Job {
+    let floor = finished_floor(chance);
+    damaged(chance, floor)
+}
+
+fn damaged(chance: &mut Chance, mut job: Job) -> Job {
     // Several damages at once show whether the tests come in the written order.
     let times = *chance.pick(&[1, 1, 1, 1, 2, 2, 3, 6]);
     for _ in 0..times {
         damage(chance, &mut job);
+    }
+    restarted(chance, job)
+}
+
+/// Many rooms that ask for much; some with something wrong besides, so that it shows which is told first: a circle, the sheet or the drawing.
+fn too_large(chance: &mut Chance) -> Job {
+    let rooms = chance.between(17, MOST_ROOMS);
+    let floor = floor_of(chance, rooms);
+    let floor = oversized(chance, floor);
+    let mut job = renumbered(chance, &floor);
+    match chance.below(5) {
+        0 => {}
+        1 => return damaged(chance, job),
+        2 => close_a_circle(chance, &mut job),
+        3 => remove_contact(chance, &mut job),
+        _ => exchange_order(chance, &mut job),
     }
     restarted(chance, job)
 }
@@ -56,7 +80,7 @@ fn damage(chance: &mut Chance, job: &mut Job) {
     if job.stars.iter().all(Vec::is_empty) {
         return;
     }
-    match chance.below(24) {
+    match chance.below(25) {
         0 => change_neighbour(chance, job),
         1 => change_kind(chance, job),
         2 if chance.percent(50) => swap_entries(chance, job),
@@ -72,6 +96,7 @@ fn damage(chance: &mut Chance, job: &mut Job) {
         16..=17 => exchange_order(chance, job),
         18..=20 => add_contact(chance, job),
         21 => change_frame(chance, job),
+        22 => change_sizes(chance, job),
         _ => change_both_sides(chance, job),
     }
 }
@@ -133,15 +158,22 @@ fn insert_entry(chance: &mut Chance, job: &mut Job) {
     job.stars[star].insert(place, entry);
 }
 
+/// With its size, so that the field keeps its length.
 fn delete_star(chance: &mut Chance, job: &mut Job) {
     let star = chance.below(job.stars.len());
     job.stars.remove(star);
+    if let Some(sizes) = &mut job.sizes {
+        sizes.remove(star);
+    }
 }
 
 fn duplicate_star(chance: &mut Chance, job: &mut Job) {
-    let star = job.stars[chance.below(job.stars.len())].clone();
+    let star = chance.below(job.stars.len());
     let place = chance.below(job.stars.len() + 1);
-    job.stars.insert(place, star);
+    job.stars.insert(place, job.stars[star].clone());
+    if let Some(sizes) = &mut job.sizes {
+        sizes.insert(place, sizes[star]);
+    }
 }
 
 fn swap_stars(chance: &mut Chance, job: &mut Job) {
@@ -308,9 +340,7 @@ fn change_both_sides(chance: &mut Chance, job: &mut Job) {
 /// Few rooms with contacts drawn by lot, both sides in step: everything but the drawing is in order.
 fn scattered(chance: &mut Chance) -> Job {
     let rooms = chance.between(2, 9);
-    let mut job = Job {
-        stars: vec![Vec::new(); rooms],
-    };
+    let mut job = Job::plain(vec![Vec::new(); rooms]);
     let density = *chance.pick(&[15, 30, 50]);
     for one in job.rooms() {
         for other in one + 1..job.vertices() {
@@ -324,6 +354,7 @@ fn scattered(chance: &mut Chance) -> Job {
     for room in job.rooms() {
         fill_with_frame(&mut job, room);
     }
+    let job = some_sizes(chance, job);
     let job = renumbered(chance, &job);
     restarted(chance, job)
 }
@@ -366,9 +397,10 @@ fn damage_byte(chance: &mut Chance, bytes: &mut Vec<u8>) {
         }
         8 => {
             let near_head = chance.below(bytes.len().min(7));
-            bytes[near_head] = *chance.pick(&[0, 1, 2, 3, 60, 61, 255]);
+            bytes[near_head] = *chance.pick(&[0, 1, 2, 3, 7, 60, 61, 255]);
         }
-        _ => put_field(bytes, 2, &[0, 0, 1, 1, 2, 2, 3, 3]),
+        _ if chance.percent(50) => put_field(bytes, 2, &[0, 0, 1, 1, 2, 2, 3, 3]),
+        _ => put_field(bytes, 7, &[2, 2]),
     }
 }
 
@@ -390,6 +422,7 @@ fn at_the_limits(chance: &mut Chance) -> Vec<u8> {
         0 => floor_of_sixty(chance).bytes(),
         1 => {
             let row = long_row(chance.between(60, 62));
+            let row = some_sizes(chance, row);
             restarted(chance, row).bytes()
         }
         2 => crowded_floor(chance).bytes(),
@@ -402,6 +435,7 @@ fn at_the_limits(chance: &mut Chance) -> Vec<u8> {
 
 fn floor_of_sixty(chance: &mut Chance) -> Job {
     let floor = floor_of(chance, MOST_ROOMS);
+    let floor = some_sizes(chance, floor);
     restarted(chance, floor)
 }
 
@@ -416,9 +450,7 @@ fn long_row(rooms: usize) -> Job {
             .map(|(neighbour, kind)| Entry { neighbour, kind })
             .to_vec()
     };
-    Job {
-        stars: (FIRST_ROOM..=last).map(star).collect(),
-    }
+    Job::plain((FIRST_ROOM..=last).map(star).collect())
 }
 
 /// Sixty rooms and about 360 pairs, both sides in step: the limit itself, then tests 4 to 9.
@@ -440,16 +472,14 @@ fn crowded_floor(chance: &mut Chance) -> Job {
 /// 359 to 362 pairs that are no stars at all.
 fn crowded_stars(chance: &mut Chance) -> Vec<u8> {
     let rooms = chance.between(1, MOST_ROOMS);
-    let mut job = Job {
-        stars: vec![Vec::new(); rooms],
-    };
+    let mut job = Job::plain(vec![Vec::new(); rooms]);
     for _ in 0..chance.between(359, 362) {
         let neighbour = chance.below(job.vertices());
         let kind = chance.below(4) as u8;
         let star = chance.below(rooms);
         job.stars[star].push(Entry { neighbour, kind });
     }
-    job.bytes()
+    some_sizes(chance, job).bytes()
 }
 
 /// A star round and round, from any start, whose length needs both bytes, up to the longest that the stream of calls can carry.
@@ -470,7 +500,7 @@ fn one_long_star(chance: &mut Chance) -> Vec<u8> {
 /// Heads that promise more, or less, than there is.
 fn long_shape(chance: &mut Chance) -> Vec<u8> {
     let mut bytes = finished_floor(chance).bytes();
-    let wanted = *chance.pick(&[904, 905, 1_024, 2_048, 8_191, 8_192, 8_193, 40_000]);
+    let wanted = *chance.pick(&[904, 905, 1_027, 1_028, 2_048, 8_191, 8_192, 8_193, 40_000]);
     while bytes.len() < wanted {
         bytes.push(chance.byte());
     }

@@ -1,10 +1,11 @@
-//! Puts many jobs and calls to the reference and to the built programs `calls`, `listing`, `doors`, `walls_list`, `cuts_list` and `draw`, and
-//! compares every line.
+//! Puts many jobs and calls to the reference and to the built programs `calls`, `listing`, `doors`, `walls_list`, `cuts_list`, `draw`, `job_to_text` and
+//! `text_to_job`, and compares every line.
 
 mod alone;
 mod circle;
 mod damage;
 mod marks;
+mod misfits;
 mod pairs;
 mod picture;
 mod planner;
@@ -17,6 +18,7 @@ mod streams;
 mod table;
 #[cfg(test)]
 mod tests;
+mod texts;
 
 use floors::Chance;
 use picture::Marked;
@@ -30,7 +32,7 @@ use streams::{make_stream, Budget};
 use table::Table;
 
 const USAGE: &str = "differ [--short | --long] [--seed N] [--jobs N] [--calls N] [--pairs N] \
-    [--listings N] [--doors N] [--walls N] [--cuts N] [--pictures N] [--runner PATH] [--slip NAME] [--reference]";
+    [--listings N] [--doors N] [--walls N] [--cuts N] [--pictures N] [--texts N] [--runner PATH] [--slip NAME] [--reference]";
 
 struct Options {
     seed: u64,
@@ -42,6 +44,7 @@ struct Options {
     walls: usize,
     cuts: usize,
     pictures: usize,
+    texts: usize,
     under_test: UnderTest,
 }
 
@@ -52,7 +55,7 @@ fn main() -> ExitCode {
     };
     let begun = Instant::now();
     println!(
-        "seed {}, {} jobs, {} other calls, {} pairs of starts, {} listings, {} lists of doors, {} of walls, {} of cuts, {} pictures",
+        "seed {}, {} jobs, {} other calls, {} pairs of starts, {} listings, {} lists of doors, {} of walls, {} of cuts, {} pictures, {} texts",
         options.seed,
         options.jobs,
         options.calls,
@@ -61,7 +64,8 @@ fn main() -> ExitCode {
         options.doors,
         options.walls,
         options.cuts,
-        options.pictures
+        options.pictures,
+        options.texts
     );
     let mut table = Table::default();
     let same = compare_calls(&options, &mut table)
@@ -70,7 +74,8 @@ fn main() -> ExitCode {
         && compare_told(&options, OneJob::Doors, options.doors, &mut table)
         && compare_told(&options, OneJob::Walls, options.walls, &mut table)
         && compare_told(&options, OneJob::Cuts, options.cuts, &mut table)
-        && compare_pictures(&options, &mut table);
+        && compare_pictures(&options, &mut table)
+        && compare_texts(&options, &mut table);
     table.print();
     println!(
         "{} cases in {:.1} seconds",
@@ -97,6 +102,7 @@ fn read_options() -> Option<Options> {
         walls: 300,
         cuts: 300,
         pictures: 200,
+        texts: 300,
         under_test: UnderTest::Runner("../bin/run".to_string()),
     };
     let mut words = std::env::args().skip(1);
@@ -108,7 +114,7 @@ fn read_options() -> Option<Options> {
                 options.pairs = 10_000;
                 (options.listings, options.doors) = (3_000, 3_000);
                 (options.walls, options.cuts) = (3_000, 3_000);
-                options.pictures = 2_000;
+                (options.pictures, options.texts) = (2_000, 3_000);
             }
             "--seed" => options.seed = words.next()?.parse().ok()?,
             "--jobs" => options.jobs = words.next()?.parse().ok()?,
@@ -119,11 +125,13 @@ fn read_options() -> Option<Options> {
             "--walls" => options.walls = words.next()?.parse().ok()?,
             "--cuts" => options.cuts = words.next()?.parse().ok()?,
             "--pictures" => options.pictures = words.next()?.parse().ok()?,
+            "--texts" => options.texts = words.next()?.parse().ok()?,
             "--runner" => options.under_test = UnderTest::Runner(words.next()?),
             "--reference" => options.under_test = UnderTest::Reference,
             "--slip" => {
                 let name = words.next()?;
-                let slip = slips::ALL.iter().find(|slip| format!("{slip:?}") == name)?;
+                let mut all = slips::ALL.iter().chain(&slips::OF_TEXTS);
+                let slip = all.find(|slip| format!("{slip:?}") == name)?;
                 options.under_test = UnderTest::Slipped(*slip);
             }
             _ => return None,
@@ -223,6 +231,48 @@ fn compare_pictures(options: &Options, table: &mut Table) -> bool {
         }
     }
     true
+}
+
+/// A job as text, that text as a job again, and a text damaged: three processes, so only a sample.
+fn compare_texts(options: &Options, table: &mut Table) -> bool {
+    let mut chance = Chance::new(options.seed ^ 0x7465_7874);
+    for round in 0..options.texts {
+        let job = listing_job(&mut chance, round);
+        let text = texts::text_of(&job, None);
+        table.count_text("as text", &text);
+        if !same_text("a job as text", &job, &text, &options.under_test.text(&job)) {
+            return false;
+        }
+        // A job that has no text leaves one that the reader must refuse, word for word.
+        let damaged = texts::damaged_text(&mut chance, &text);
+        for text in [text, damaged] {
+            let back = texts::job_of(&text, None);
+            table.count_text("read", &back);
+            if !same_text("a text read", &text, &back, &options.under_test.job(&text)) {
+                return false;
+            }
+        }
+    }
+    true
+}
+
+/// Whether both are the same; if not, all three are shown.
+fn same_text(what: &str, asked: &[u8], expected: &[u8], found: &[u8]) -> bool {
+    if expected != found {
+        println!("difference in {what}, asked:\n{}", shown(asked));
+        println!("reference:\n{}program:\n{}", shown(expected), shown(found));
+    }
+    expected == found
+}
+
+/// A text as it is, and bytes as digits.
+fn shown(bytes: &[u8]) -> String {
+    let printed = |byte: &u8| byte.is_ascii_graphic() || byte.is_ascii_whitespace();
+    if bytes.iter().all(printed) {
+        String::from_utf8_lossy(bytes).into_owned()
+    } else {
+        hex(bytes) + "\n"
+    }
 }
 
 /// What a picture shows: the listing, but with cuts the refusal of a floor that has none.

@@ -1,10 +1,11 @@
 //! The listing that a picture shows: every rectangle read back from its ground, its outline, its title and its label, which have to agree; and
 //! what else a picture owes: everything inside it, neighbours in different tints, every wall marked or every cut numbered, every line numbered at both
-//! ends, and the job it shows.
+//! ends, least sizes shown where they bind, and the job it shows.
 
 use crate::marks::check_marks;
 use reference::drawing::{Plan, Rectangle};
 use reference::fields::put_field;
+use reference::job::{read, Job};
 
 const TOP: usize = 68;
 const MARGIN: usize = 40;
@@ -32,10 +33,11 @@ pub struct Sheet {
     height: usize,
     pub cell: usize,
     left: usize,
+    sized: bool,
 }
 
 impl Sheet {
-    fn new(width: usize, height: usize) -> Sheet {
+    fn new(width: usize, height: usize, sized: bool) -> Sheet {
         let cell = match width.max(height) {
             0..=6 => 80,
             7..=8 => 60,
@@ -50,6 +52,7 @@ impl Sheet {
             height,
             cell,
             left,
+            sized,
         }
     }
 
@@ -63,7 +66,8 @@ impl Sheet {
 
     /// How large the whole picture is.
     fn size(&self) -> (usize, usize) {
-        (self.across(self.width) + self.left, self.down(0) + 85)
+        let words = if self.sized { 97 } else { 85 };
+        (self.across(self.width) + self.left, self.down(0) + words)
     }
 }
 
@@ -103,7 +107,8 @@ pub fn listing_shown(
         return Ok(picture.to_string());
     }
     let (width, height) = sheet(picture).ok_or("no sheet in the title")?;
-    let sheet = Sheet::new(width, height);
+    let drawn = read(job).map_err(|refusal| format!("a picture of what is {refusal:?}"))?;
+    let sheet = Sheet::new(width, height, drawn.sizes.is_some());
     check_size(picture, &sheet)?;
     check_bounds(picture, &sheet)?;
     check_words(picture, &sheet, marked, name, job)?;
@@ -131,8 +136,42 @@ pub fn listing_shown(
         text.push_str(&format!("{vertex} {x1} {y1} {x2} {y2}\n"));
     }
     check_tints(&painted)?;
-    check_marks(picture, &sheet, &plan_of(&sheet, &painted), marked, &labels)?;
+    let plan = plan_of(&sheet, &painted);
+    check_marks(picture, &sheet, &plan, marked, &labels)?;
+    check_least(picture, &sheet, &plan, &drawn)?;
     Ok(text)
+}
+
+/// A blue line inside each room that is just as wide as it must be, or as high, where that is more than a cell, and no other.
+fn check_least(picture: &str, sheet: &Sheet, plan: &Plan, job: &Job) -> Result<(), String> {
+    let mut found = Vec::new();
+    for line in picture.lines().filter(|line| line.contains("<line")) {
+        let ends: Option<Vec<usize>> = ["x1", "y1", "x2", "y2"]
+            .iter()
+            .map(|name| attribute(line, name))
+            .collect();
+        let blue = line.ends_with(" stroke=\"#1f4e9e\" stroke-width=\"2\"/>");
+        found.push(
+            ends.filter(|_| blue)
+                .ok_or(format!("a line: {line:.80}"))?,
+        );
+    }
+    let mut expected = Vec::new();
+    for room in job.rooms() {
+        let (r, least) = (&plan.rectangles[room], job.size_of(room));
+        let (left, right) = (sheet.across(r.x1) + 4, sheet.across(r.x2) - 4);
+        let (upper, lower) = (sheet.down(r.y2) + 4, sheet.down(r.y1) - 4);
+        if least.width > 1 && r.x2 - r.x1 == least.width {
+            expected.push(vec![left, lower, right, lower]);
+        }
+        if least.height > 1 && r.y2 - r.y1 == least.height {
+            expected.push(vec![left, upper, left, lower]);
+        }
+    }
+    if found != expected {
+        return Err(format!("least sizes {found:?} in place of {expected:?}"));
+    }
+    Ok(())
 }
 
 /// The plan that the rectangles make.
@@ -344,9 +383,14 @@ fn told(sheet: &Sheet, marked: Marked, name: &[u8], job: &[u8]) -> Vec<Words> {
             "No sheet with these contacts is smaller.".into(),
         ),
     ];
+    let least = sheet.sized.then(|| {
+        let says = "Blue inside a room: it is just as wide, or as high, as it must be at least.";
+        (bottom + 90, 11, says.into())
+    });
     let x = sheet.size().0 / 2;
     lines
         .into_iter()
+        .chain(least)
         .map(|(y, size, says)| Words { x, y, size, says })
         .collect()
 }
@@ -356,7 +400,7 @@ fn line_numbers(sheet: &Sheet) -> Vec<Words> {
     let number = |x, y, n: usize| Words {
         x,
         y,
-        size: 12,
+        size: if n < 100 { 12 } else { 8 },
         says: n.to_string(),
     };
     let mut all = Vec::new();

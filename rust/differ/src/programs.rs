@@ -2,6 +2,7 @@
 
 use crate::planner::{calls_text, OneJob};
 use crate::slips::{Slip, SlippedBoard};
+use crate::texts::{job_of, text_of};
 use reference::Board;
 use std::io::{Read, Write};
 use std::process::{Child, Command, Stdio};
@@ -43,10 +44,33 @@ impl UnderTest {
             UnderTest::Slipped(_) | UnderTest::Reference => None,
         }
     }
+
+    /// A job as text.
+    pub fn text(&self, job: &[u8]) -> Vec<u8> {
+        match self {
+            UnderTest::Runner(path) => run_bytes(path, "job_to_text", job),
+            UnderTest::Slipped(slip) => text_of(job, Some(*slip)),
+            UnderTest::Reference => text_of(job, None),
+        }
+    }
+
+    /// The job of a text.
+    pub fn job(&self, text: &[u8]) -> Vec<u8> {
+        match self {
+            UnderTest::Runner(path) => run_bytes(path, "text_to_job", text),
+            UnderTest::Slipped(slip) => job_of(text, Some(*slip)),
+            UnderTest::Reference => job_of(text, None),
+        }
+    }
+}
+
+/// What a program prints that prints text.
+fn run(runner: &str, program: &str, input: &[u8]) -> String {
+    String::from_utf8_lossy(&run_bytes(runner, program, input)).into_owned()
 }
 
 /// What the program prints. A bad end or no end is made visible as a last line that no program prints.
-fn run(runner: &str, program: &str, input: &[u8]) -> String {
+fn run_bytes(runner: &str, program: &str, input: &[u8]) -> Vec<u8> {
     let child = Command::new(runner)
         .arg(program)
         .stdin(Stdio::piped())
@@ -61,7 +85,7 @@ fn run(runner: &str, program: &str, input: &[u8]) -> String {
     }
 }
 
-fn talk(mut child: Child, input: &[u8]) -> String {
+fn talk(mut child: Child, input: &[u8]) -> Vec<u8> {
     let mut stdin = child.stdin.take().expect("standard input is a pipe");
     let mut stdout = child.stdout.take().expect("standard output is a pipe");
     let input = input.to_vec();
@@ -80,14 +104,13 @@ fn talk(mut child: Child, input: &[u8]) -> String {
     let status = child.wait();
     drop(writer.join());
     drop(reader.join());
-    let Ok((bytes, true)) = answer else {
-        return "(no end within the time allowed)\n".to_string();
+    let Ok((mut bytes, true)) = answer else {
+        return b"(no end within the time allowed)\n".to_vec();
     };
-    let mut text = String::from_utf8_lossy(&bytes).into_owned();
     match status {
         Ok(status) if status.success() => {}
-        Ok(status) => text.push_str(&format!("(ended with {status})\n")),
-        Err(error) => text.push_str(&format!("(ended with {error})\n")),
+        Ok(status) => bytes.extend(format!("(ended with {status})\n").bytes()),
+        Err(error) => bytes.extend(format!("(ended with {error})\n").bytes()),
     }
-    text
+    bytes
 }

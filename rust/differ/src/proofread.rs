@@ -1,5 +1,6 @@
 //! Demand 3 held against the reference itself, cell by cell, so that a comparison with it means something.
 
+use floors::LARGEST_SHEET;
 use reference::cuts;
 use reference::drawing::{touch, within_bound, Plan, Touch};
 use reference::job::{Entry, Job};
@@ -9,7 +10,16 @@ use reference::{ABOVE, BELOW, EAST, LEFT, NORTH, RIGHT, SOUTH, WEST};
 /// What is wrong with a held plan, if anything is.
 pub fn plan_fault(job: &Job, plan: &Plan) -> Option<&'static str> {
     if !within_bound(job, plan) {
-        return Some("the sheet is wider or higher than the number of rooms plus 2");
+        return Some("the sheet is wider or higher than all rooms one behind the other, plus 2");
+    }
+    if plan.width.max(plan.height) > LARGEST_SHEET {
+        return Some("the sheet is wider or higher than 250");
+    }
+    if !rooms_are_large_enough(job, plan) {
+        return Some("a room is smaller than its least size");
+    }
+    if !walls_are_pushed(job, plan) {
+        return Some("a wall could have a smaller number");
     }
     let Some(cells) = painted(plan) else {
         return Some("a cell lies in two rectangles, or a rectangle outside the sheet");
@@ -182,6 +192,56 @@ impl Marks {
             *mark = new;
         }
     }
+}
+
+fn rooms_are_large_enough(job: &Job, plan: &Plan) -> bool {
+    job.rooms().all(|room| {
+        let (r, size) = (&plan.rectangles[room], job.size_of(room));
+        r.x1 + size.width <= r.x2 && r.y1 + size.height <= r.y2
+    })
+}
+
+/// W7: each wall to the right of a room, or above it, is where some room or contact on that wall needs it to be, counted from a wall before it; so none could
+/// have a smaller number. The walls of W and S have number 1.
+fn walls_are_pushed(job: &Job, plan: &Plan) -> bool {
+    let marks = Marks::joined_by(job);
+    let first = |room: usize, side: u8| {
+        let frame = job.kind_of(room, usize::from(side)).is_some();
+        !frame || near_of(plan, room, side) == 1
+    };
+    job.rooms().all(|room| {
+        let far_walls = [RIGHT, ABOVE].into_iter().all(|far| {
+            let mark = marks.at((room, far));
+            let on_it = |other: &usize| marks.at((*other, far)) == mark;
+            job.rooms()
+                .filter(on_it)
+                .any(|other| pushes(job, plan, other, far))
+        });
+        far_walls && first(room, LEFT) && first(room, BELOW)
+    })
+}
+
+/// Where the side to the left of a room lies, or the one below it.
+fn near_of(plan: &Plan, room: usize, near: u8) -> usize {
+    match near {
+        LEFT => plan.rectangles[room].x1,
+        _ => plan.rectangles[room].y1,
+    }
+}
+
+/// Whether the room's right or upper side lies no further than its own size, or a room over or beside it, asks for.
+fn pushes(job: &Job, plan: &Plan, room: usize, far: u8) -> bool {
+    let (r, size) = (&plan.rectangles[room], job.size_of(room));
+    let (place, near, least, crossing) = match far {
+        RIGHT => (r.x2, LEFT, size.width, [ABOVE, BELOW]),
+        _ => (r.y2, BELOW, size.height, [LEFT, RIGHT]),
+    };
+    let by_contact = job.star_of(room).iter().any(|entry| {
+        job.is_room(entry.neighbour)
+            && crossing.contains(&entry.kind)
+            && near_of(plan, entry.neighbour, near) + 1 == place
+    });
+    by_contact || near_of(plan, room, near) + least == place
 }
 
 /// The walls as the job's contacts join the rooms' sides, in the register's order: n + 3 of them, with 4n sides.

@@ -1,4 +1,4 @@
-//! A difference made small: calls left out while it stays, then stars, entries and bytes of the jobs, then starts elsewhere.
+//! A difference made small: calls left out while it stays, then stars, entries, sizes and bytes of the jobs, then starts elsewhere.
 
 use crate::circle::{gap, list};
 use crate::planner::{calls_text, LOAD, STAR};
@@ -126,14 +126,15 @@ fn smaller_calls(piece: &[u8]) -> Vec<Vec<u8>> {
 
 fn smaller_jobs(bytes: &[u8]) -> Vec<Vec<u8>> {
     let mut all = Vec::new();
-    let (stars, rest) = lenient(bytes);
-    for place in 0..stars.len() {
-        all.push(joined(&without_room(&stars, place), &rest));
+    let job = Loose::read(bytes);
+    for place in 0..job.stars.len() {
+        all.push(job.without_room(place).bytes());
     }
-    for (place, star) in stars.iter().enumerate() {
+    all.push(job.without_sizes().bytes());
+    for (place, star) in job.stars.iter().enumerate() {
         for pair in 0..star.len() / 2 {
-            all.push(joined(&without_contact(&stars, place, pair), &rest));
-            all.push(joined(&without_entry(&stars, place, pair), &rest));
+            all.push(job.without_contact(place, pair).bytes());
+            all.push(job.without_entry(place, pair).bytes());
         }
     }
     for length in [bytes.len() / 2, 16, 4, 1] {
@@ -144,69 +145,135 @@ fn smaller_jobs(bytes: &[u8]) -> Vec<Vec<u8>> {
     }
     // A job that is not in order comes back changed from being read so; only what gets shorter is a step.
     all.retain(|job| job.len() < bytes.len());
-    // As long as before, but with one start elsewhere fewer, so that this comes to an end too.
-    let straighter = straighter_jobs(&stars, &rest);
-    all.extend(straighter.filter(|job| job.len() == bytes.len()));
+    // As long as before, but with one start elsewhere fewer or a smaller size, so that this comes to an end too.
+    let milder = job.straighter().chain(job.milder());
+    all.extend(milder.filter(|job| job.len() == bytes.len()));
     all
 }
 
-/// One star started with its first above-neighbour again, so that a start elsewhere that is left matters.
-fn straighter_jobs<'a>(stars: &'a [Vec<u8>], rest: &'a [u8]) -> impl Iterator<Item = Vec<u8>> + 'a {
-    let straightened = |(place, star): (usize, &Vec<u8>)| {
-        let kinds: Vec<u8> = star.chunks_exact(2).map(|pair| pair[1]).collect();
-        let (begin, _) = list(&kinds, 0)?;
-        let mut straighter = stars.to_vec();
-        straighter[place].rotate_left(2 * begin);
-        (begin > 0 && star.len() % 2 == 0).then(|| joined(&straighter, rest))
-    };
-    stars.iter().enumerate().filter_map(straightened)
+/// A job as far as the bytes are fields at all.
+#[derive(Clone)]
+struct Loose {
+    /// The values of the stars.
+    stars: Vec<Vec<u8>>,
+    /// The value of the sizes, where two bytes a room stand behind the stars.
+    sizes: Option<Vec<u8>>,
+    /// What is left over.
+    rest: Vec<u8>,
 }
 
-/// The star values as far as the bytes are fields at all, and what is left over.
-fn lenient(bytes: &[u8]) -> (Vec<Vec<u8>>, Vec<u8>) {
-    let mut reader = Reader::new(bytes);
-    let mut stars = Vec::new();
-    let mut used = 0;
-    let mut first = true;
-    while let Some(field) = reader.next_field() {
-        let wanted = if first { 1 } else { 2 };
-        if field.tag != wanted {
-            break;
+impl Loose {
+    fn read(bytes: &[u8]) -> Loose {
+        let mut reader = Reader::new(bytes);
+        let mut job = Loose {
+            stars: Vec::new(),
+            sizes: None,
+            rest: Vec::new(),
+        };
+        let mut used = 0;
+        while let Some(field) = reader.next_field() {
+            match field.tag {
+                1 if used == 0 => {}
+                2 if used > 0 => job.stars.push(field.value.to_vec()),
+                7 if used > 0 && field.value.len() == 2 * job.stars.len() => {
+                    job.sizes = Some(field.value.to_vec());
+                }
+                _ => break,
+            }
+            used += 3 + field.value.len();
+            if job.sizes.is_some() {
+                break;
+            }
         }
-        used += 3 + field.value.len();
-        if !first {
-            stars.push(field.value.to_vec());
+        job.rest = bytes[used..].to_vec();
+        job
+    }
+
+    fn bytes(&self) -> Vec<u8> {
+        let mut bytes = Vec::new();
+        put_field(&mut bytes, 1, &[self.stars.len() as u8]);
+        for star in &self.stars {
+            put_field(&mut bytes, 2, star);
         }
-        first = false;
+        if let Some(sizes) = &self.sizes {
+            put_field(&mut bytes, 7, sizes);
+        }
+        bytes.extend_from_slice(&self.rest);
+        bytes
     }
-    (stars, bytes[used..].to_vec())
-}
 
-fn joined(stars: &[Vec<u8>], rest: &[u8]) -> Vec<u8> {
-    let mut bytes = Vec::new();
-    put_field(&mut bytes, 1, &[stars.len() as u8]);
-    for star in stars {
-        put_field(&mut bytes, 2, star);
-    }
-    bytes.extend_from_slice(rest);
-    bytes
-}
-
-/// The room goes, with every mention of it; a kind that is then missing gets its frame side.
-fn without_room(stars: &[Vec<u8>], place: usize) -> Vec<Vec<u8>> {
-    let gone = place + 4;
-    let mut fewer: Vec<Vec<u8>> = stars.to_vec();
-    fewer.remove(place);
-    fewer
-        .iter()
-        .map(|star| {
+    /// The room goes, with its size and with every mention of it; a kind that is then missing gets its frame side.
+    fn without_room(&self, place: usize) -> Loose {
+        let gone = place + 4;
+        let mut fewer = self.clone();
+        fewer.stars.remove(place);
+        for star in &mut fewer.stars {
             let pairs = star.chunks_exact(2).filter(|p| usize::from(p[0]) != gone);
             let kept: Vec<[u8; 2]> = pairs
                 .map(|p| [p[0] - u8::from(usize::from(p[0]) > gone), p[1]])
                 .collect();
-            with_each_kind(kept)
+            *star = with_each_kind(kept);
+        }
+        if let Some(sizes) = &mut fewer.sizes {
+            sizes.drain(2 * place..2 * place + 2);
+        }
+        fewer
+    }
+
+    fn without_sizes(&self) -> Loose {
+        Loose {
+            sizes: None,
+            ..self.clone()
+        }
+    }
+
+    fn without_entry(&self, place: usize, pair: usize) -> Loose {
+        let mut fewer = self.clone();
+        fewer.stars[place].drain(2 * pair..2 * pair + 2);
+        fewer
+    }
+
+    fn without_contact(&self, place: usize, pair: usize) -> Loose {
+        let neighbour = usize::from(self.stars[place][2 * pair]);
+        let mut fewer = self.without_entry(place, pair);
+        let other = neighbour.checked_sub(4);
+        if let Some(other) = other.and_then(|other| fewer.stars.get_mut(other)) {
+            *other = other
+                .chunks_exact(2)
+                .filter(|p| usize::from(p[0]) != place + 4)
+                .flatten()
+                .copied()
+                .collect();
+        }
+        fewer
+    }
+
+    /// One star started with its first above-neighbour again, so that a start elsewhere that is left matters.
+    fn straighter(&self) -> impl Iterator<Item = Vec<u8>> + '_ {
+        let straightened = |(place, star): (usize, &Vec<u8>)| {
+            let kinds: Vec<u8> = star.chunks_exact(2).map(|pair| pair[1]).collect();
+            let (begin, _) = list(&kinds, 0)?;
+            let mut straighter = self.clone();
+            straighter.stars[place].rotate_left(2 * begin);
+            (begin > 0 && star.len() % 2 == 0).then(|| straighter.bytes())
+        };
+        self.stars.iter().enumerate().filter_map(straightened)
+    }
+
+    /// One size made 1, or half of what it is.
+    fn milder(&self) -> impl Iterator<Item = Vec<u8>> + '_ {
+        let sizes = self.sizes.iter().flatten().copied().enumerate();
+        let larger = sizes.filter(|(_, least)| *least > 1);
+        larger.flat_map(|(place, least)| {
+            [1, least / 2].map(|milder| {
+                let mut job = self.clone();
+                if let Some(sizes) = &mut job.sizes {
+                    sizes[place] = milder;
+                }
+                job.bytes()
+            })
         })
-        .collect()
+    }
 }
 
 fn with_each_kind(mut pairs: Vec<[u8; 2]>) -> Vec<u8> {
@@ -217,27 +284,4 @@ fn with_each_kind(mut pairs: Vec<[u8; 2]>) -> Vec<u8> {
         }
     }
     pairs.concat()
-}
-
-fn without_entry(stars: &[Vec<u8>], place: usize, pair: usize) -> Vec<Vec<u8>> {
-    let mut fewer = stars.to_vec();
-    fewer[place].drain(2 * pair..2 * pair + 2);
-    fewer
-}
-
-fn without_contact(stars: &[Vec<u8>], place: usize, pair: usize) -> Vec<Vec<u8>> {
-    let neighbour = usize::from(stars[place][2 * pair]);
-    let mut fewer = without_entry(stars, place, pair);
-    if let Some(other) = neighbour
-        .checked_sub(4)
-        .and_then(|other| fewer.get_mut(other))
-    {
-        *other = other
-            .chunks_exact(2)
-            .filter(|p| usize::from(p[0]) != place + 4)
-            .flatten()
-            .copied()
-            .collect();
-    }
-    fewer
 }

@@ -2,14 +2,17 @@
 
 use crate::circle::{kinds_of, list, places};
 use crate::planner::Planner;
+use floors::{LARGEST_SHEET, LARGEST_SIZE};
 use reference::cuts::{self, cuts, tree_by, Cut, Part};
 use reference::doors::{doors_by, Door};
-use reference::drawing::{draw, faults, in_order, meet_only_at_a_corner, place, touch};
+use reference::drawing::{faults, in_order, meet_only_at_a_corner, place, touch};
 use reference::drawing::{Faults, Plan, Rectangle, Touch};
-use reference::job::{changes, goes_on, nobody_twice, read_by, star_is_fit, Job, Star};
+use reference::fields::{put_field, Reader};
+use reference::job::{changes, goes_on, nobody_twice, read_by, sizes_are_fit, star_is_fit};
+use reference::job::{Job, Size, Star, ONE_CELL};
 use reference::register::{self, register, Wall, LEVEL, UPRIGHT};
 use reference::turning::turned;
-use reference::walls::{number_walls, WallNumbers};
+use reference::walls::{far_walls, number_walls, WallNumbers};
 use reference::{Board, Refusal, ABOVE, BELOW, FIRST_ROOM, LEFT, RIGHT};
 
 #[derive(Clone, Copy, Debug, PartialEq, Eq)]
@@ -99,9 +102,58 @@ pub enum Slip {
     EntryMoved,
     /// The order test does not look from the star's end to its start.
     OrderNotClosed,
+    /// Widths taken for heights and heights for widths.
+    SizesExchanged,
+    /// A contact asks for the size of its room, too.
+    SizeOfContacts,
+    /// Sizes that are all 1 are accepted.
+    OnesAccepted,
+    /// A size of 16 is accepted.
+    SixteenAccepted,
+    /// A size of 0 is accepted, and counts as 1.
+    NoughtAccepted,
+    /// Test 17 is made before tests 3 to 6.
+    SeventeenFirst,
+    /// The sizes are lost by a turn.
+    SizesLostByTurn,
+    /// The sizes are held and written, but ask for nothing.
+    SizesIgnored,
+    /// A job is written without its sizes.
+    SizesNotWritten,
+    /// A job without sizes that has as many rooms as the one held keeps the sizes of that.
+    SizesKept,
+    /// A sheet too wide is 18 before the level walls are looked at for a circle.
+    EighteenBeforeSeven,
+    /// Walls in a circle are pushed up until the sheet is too large.
+    CircleTooLarge,
+    /// The drawing test is made before 18.
+    NineBeforeEighteen,
+    /// A sheet of 251 is accepted.
+    SheetOf251,
+    /// Only the width is looked at for 18.
+    AnyHeight,
+    /// 18 is given on a load only.
+    AnyTurnedSheet,
+    /// A field of sizes in front of the stars is accepted.
+    SizesInFront,
+    /// Two fields of sizes are accepted, and the second counts.
+    SizesTwice,
+    /// A field of too few sizes is accepted; the other rooms have 1.
+    FewerSizes,
+    /// A field of another tag behind the stars is taken for the sizes.
+    AnyTag,
+    /// In a text the height comes first, written and read.
+    TextHeightFirst,
+    /// A size of 1 by 1 is told in a text.
+    TextOnesTold,
+    /// No size is told in a text.
+    TextSizesUntold,
+    /// A text in which every size is 1 by 1 makes a job with a field of ones.
+    TextOnesRead,
 }
 
-pub const ALL: [Slip; 44] = [
+/// Those that calls show.
+pub const ALL: [Slip; 64] = [
     Slip::RoomsOnly,
     Slip::AreaAlone,
     Slip::NoArea,
@@ -146,6 +198,34 @@ pub const ALL: [Slip; 44] = [
     Slip::LastAsWritten,
     Slip::EntryMoved,
     Slip::OrderNotClosed,
+    Slip::SizesExchanged,
+    Slip::SizeOfContacts,
+    Slip::OnesAccepted,
+    Slip::SixteenAccepted,
+    Slip::NoughtAccepted,
+    Slip::SeventeenFirst,
+    Slip::SizesLostByTurn,
+    Slip::SizesIgnored,
+    Slip::SizesNotWritten,
+    Slip::SizesKept,
+    Slip::EighteenBeforeSeven,
+    Slip::CircleTooLarge,
+    Slip::NineBeforeEighteen,
+    Slip::SheetOf251,
+    Slip::AnyHeight,
+    Slip::AnyTurnedSheet,
+    Slip::SizesInFront,
+    Slip::SizesTwice,
+    Slip::FewerSizes,
+    Slip::AnyTag,
+];
+
+/// Those that only texts show.
+pub const OF_TEXTS: [Slip; 4] = [
+    Slip::TextHeightFirst,
+    Slip::TextOnesTold,
+    Slip::TextSizesUntold,
+    Slip::TextOnesRead,
 ];
 
 /// Those that a job and the same job started elsewhere show without the reference.
@@ -186,6 +266,23 @@ pub const OF_CUTS: [Slip; 5] = [
     Slip::PlaceFromRooms,
 ];
 
+/// Those of the sizes that the listing of one job shows as well.
+#[cfg(test)]
+pub const OF_SIZES: [Slip; 12] = [
+    Slip::SizesExchanged,
+    Slip::SizeOfContacts,
+    Slip::OnesAccepted,
+    Slip::SixteenAccepted,
+    Slip::NoughtAccepted,
+    Slip::SeventeenFirst,
+    Slip::SizesIgnored,
+    Slip::CircleTooLarge,
+    Slip::SizesInFront,
+    Slip::SizesTwice,
+    Slip::FewerSizes,
+    Slip::AnyTag,
+];
+
 pub struct SlippedBoard {
     slip: Slip,
     held: Option<(Job, Plan)>,
@@ -204,26 +301,121 @@ impl SlippedBoard {
         }
     }
 
+    /// Tests 7, 18 and 9.
     fn draw(&self, job: &Job) -> Result<Plan, Refusal> {
         let mut judged = job.clone();
         if self.slip == Slip::AboveLeftToRight {
             judged.stars.iter_mut().for_each(reverse_above);
         }
-        let numbers = if self.slip == Slip::RoomsOnly {
-            number_walls(job)?;
-            rooms_only(job)
-        } else {
-            number_walls(&judged)?
-        };
-        let plan = place(&judged, &numbers);
-        let mut found = self.without_item(faults(&judged, &plan));
-        if self.slip == Slip::OrderNotClosed {
-            found.order = !in_order_as_written(&judged, &plan);
+        let plan = place(&judged, &self.numbers(&judged)?);
+        let undrawable = self.undrawable(&judged, &plan);
+        if self.slip == Slip::NineBeforeEighteen && undrawable {
+            return Err(Refusal(9));
         }
-        if found.any() {
+        if self.too_large(&plan) {
+            return Err(Refusal(18));
+        }
+        if undrawable {
             return Err(Refusal(9));
         }
         Ok(plan)
+    }
+
+    /// The walls' numbers, or test 7.
+    fn numbers(&self, job: &Job) -> Result<WallNumbers, Refusal> {
+        if self.slip == Slip::EighteenBeforeSeven {
+            let right = far_walls(job)[0];
+            if right.is_some_and(|wall| wall + 1 > LARGEST_SHEET) {
+                return Err(Refusal(18));
+            }
+        }
+        let numbers = number_walls(&self.asked(job));
+        match self.slip {
+            Slip::CircleTooLarge if job.sizes.is_some() => numbers.map_err(|_| Refusal(18)),
+            Slip::RoomsOnly => numbers.map(|_| pushed(job, |_| 0)),
+            Slip::SizeOfContacts => numbers.map(|_| pushed(job, |least| least)),
+            _ => numbers,
+        }
+    }
+
+    /// The job with the sizes that its walls are numbered by.
+    fn asked(&self, job: &Job) -> Job {
+        let exchanged = |size: &Size| Size {
+            width: size.height,
+            height: size.width,
+        };
+        let at_least_one = |size: &Size| Size {
+            width: size.width.max(1),
+            height: size.height.max(1),
+        };
+        let sizes = job.sizes.as_ref();
+        let sizes = match self.slip {
+            Slip::SizesExchanged => sizes.map(|sizes| sizes.iter().map(exchanged).collect()),
+            Slip::NoughtAccepted => sizes.map(|sizes| sizes.iter().map(at_least_one).collect()),
+            Slip::SizesIgnored => None,
+            _ => sizes.cloned(),
+        };
+        Job {
+            stars: job.stars.clone(),
+            sizes,
+        }
+    }
+
+    fn too_large(&self, plan: &Plan) -> bool {
+        match self.slip {
+            Slip::SheetOf251 => plan.width.max(plan.height) > LARGEST_SHEET + 1,
+            Slip::AnyHeight => plan.width > LARGEST_SHEET,
+            _ => plan.width.max(plan.height) > LARGEST_SHEET,
+        }
+    }
+
+    fn undrawable(&self, job: &Job, plan: &Plan) -> bool {
+        let mut found = self.without_item(faults(job, plan));
+        if self.slip == Slip::OrderNotClosed {
+            found.order = !in_order_as_written(job, plan);
+        }
+        found.any()
+    }
+
+    /// Test 17.
+    fn sizes_are_fit(&self, job: &Job) -> bool {
+        let Some(sizes) = &job.sizes else {
+            return true;
+        };
+        let each = sizes.iter().flat_map(|size| [size.width, size.height]);
+        let all_within = |first, last| each.clone().all(|least| (first..=last).contains(&least));
+        let larger = sizes.iter().any(|&size| size != ONE_CELL);
+        match self.slip {
+            Slip::OnesAccepted => all_within(1, LARGEST_SIZE),
+            Slip::SixteenAccepted => all_within(1, LARGEST_SIZE + 1) && larger,
+            Slip::NoughtAccepted => all_within(0, LARGEST_SIZE) && larger,
+            _ => sizes_are_fit(job),
+        }
+    }
+
+    /// The bytes with a field of sizes that the planner takes for one, as it should be.
+    fn mended(&self, bytes: &[u8]) -> Vec<u8> {
+        let Some(mut fields) = all_fields(bytes) else {
+            return bytes.to_vec();
+        };
+        let rooms = usize::from(bytes[3]);
+        let last = fields.len() - 1;
+        match self.slip {
+            Slip::SizesInFront if last > 0 && fields[1].0 == 7 => fields[1..].rotate_left(1),
+            Slip::SizesTwice if last > rooms + 1 && fields[last - 1].0 == 7 => {
+                fields.remove(last - 1);
+            }
+            Slip::FewerSizes if fields[last].0 == 7 && fields[last].1.len() < 2 * rooms => {
+                fields[last].1.resize(2 * rooms, 1);
+            }
+            Slip::AnyTag if last == rooms + 1 => fields[last].0 = 7,
+            _ => {}
+        }
+        let mut mended = Vec::new();
+        for (tag, value) in fields {
+            put_field(&mut mended, tag, &value);
+        }
+        mended
     }
 
     /// Test 5 of a star.
@@ -328,19 +520,36 @@ impl SlippedBoard {
         if self.slip == Slip::ShapeBeforeCount && counted && bytes[3] > 60 {
             let mut bytes_of_sixty = bytes.to_vec();
             bytes_of_sixty[3] = 60;
-            if reference::job::star_values(&bytes_of_sixty).is_err() {
+            if reference::job::values(&bytes_of_sixty).is_err() {
                 return Err(Refusal(1));
             }
+        }
+        let bytes = &self.mended(bytes);
+        if self.slip == Slip::SeventeenFirst && seventeen_by_bytes(bytes) {
+            return Err(Refusal(17));
         }
         let mut job = match read_by(bytes, |star| self.star_is_fit(star)) {
             Err(Refusal(3)) if self.slip == Slip::FourBeforeThree => return Err(Refusal(4)),
             other => other?,
         };
+        if !self.sizes_are_fit(&job) {
+            return Err(Refusal(17));
+        }
+        if self.slip == Slip::SizesKept && job.sizes.is_none() {
+            job.sizes = self.sizes_held(job.stars.len());
+        }
         if self.slip == Slip::HeldFromFirstAbove {
             job.stars.iter_mut().for_each(start_with_above);
         }
         let plan = self.draw(&job)?;
         Ok((job, plan))
+    }
+
+    /// The sizes of the held job, where it has so many rooms.
+    fn sizes_held(&self, rooms: usize) -> Option<Vec<Size>> {
+        let (job, _) = self.held.as_ref()?;
+        let sizes = job.sizes.as_ref()?;
+        (sizes.len() == rooms).then(|| sizes.clone())
     }
 
     fn write(&self, bytes: Vec<u8>, buffer: &mut [u8]) -> Result<usize, Refusal> {
@@ -354,6 +563,30 @@ impl SlippedBoard {
         }
         Ok(bytes.len())
     }
+}
+
+/// Tag and value of each field, where the bytes are fields and nothing else, the first that of one room or more.
+fn all_fields(bytes: &[u8]) -> Option<Vec<(u8, Vec<u8>)>> {
+    let mut reader = Reader::new(bytes);
+    let mut fields = Vec::new();
+    while !reader.at_end() {
+        let field = reader.next_field()?;
+        fields.push((field.tag, field.value.to_vec()));
+    }
+    let counted = bytes.len() >= 4 && bytes[..3] == [1, 0, 1] && bytes[3] > 0;
+    counted.then_some(fields)
+}
+
+/// Whether test 17 would fail, were it made on the bytes alone.
+fn seventeen_by_bytes(bytes: &[u8]) -> bool {
+    let Ok(values) = reference::job::values(bytes) else {
+        return false;
+    };
+    let outside = |sizes: &[u8]| {
+        let most = LARGEST_SIZE as u8;
+        sizes.iter().any(|least| !(1..=most).contains(least)) || sizes.iter().all(|&one| one == 1)
+    };
+    values.sizes.is_some_and(outside)
 }
 
 fn reverse_above(star: &mut Star) {
@@ -474,25 +707,32 @@ fn move_over_the_start(star: &mut Star, before: &Star) {
     }
 }
 
-/// Sides pushed up until every join and every room is content.
-fn rooms_only(job: &Job) -> WallNumbers {
+/// Sides pushed up until every join and every room is content, and every contact across, which asks for something by its room's size, or for nothing.
+fn pushed(job: &Job, asked: impl Fn(usize) -> usize) -> WallNumbers {
     let count = job.vertices();
     let mut near = [vec![1; count], vec![1; count]];
     let mut far = [vec![1; count], vec![1; count]];
     for _ in 0..4 * count {
         for room in job.rooms() {
-            for (axis, (joining, frame_kind)) in [(RIGHT, 1), (ABOVE, 2)].into_iter().enumerate() {
+            let size = job.size_of(room);
+            let ways = [
+                (RIGHT, [ABOVE, BELOW], size.width),
+                (ABOVE, [LEFT, RIGHT], size.height),
+            ];
+            for (axis, (joining, crossing, least)) in ways.into_iter().enumerate() {
                 for entry in job.star_of(room) {
                     let other = entry.neighbour;
                     if entry.kind == joining {
                         let most = far[axis][room].max(near[axis][other]);
                         far[axis][room] = most;
                         near[axis][other] = most;
-                    } else if entry.kind == frame_kind && other < FIRST_ROOM {
-                        near[axis][room] = near[axis][room].max(1);
+                    }
+                    let step = asked(least);
+                    if job.is_room(other) && crossing.contains(&entry.kind) && step > 0 {
+                        far[axis][other] = far[axis][other].max(near[axis][room] + step);
                     }
                 }
-                far[axis][room] = far[axis][room].max(near[axis][room] + 1);
+                far[axis][room] = far[axis][room].max(near[axis][room] + least);
             }
         }
     }
@@ -530,11 +770,19 @@ impl Planner for SlippedBoard {
         if self.slip == Slip::TurnAnswers13 && one.max(other) >= job.vertices() {
             return Err(Refusal(13));
         }
-        let job = self.turned(job, one, other)?;
+        let mut job = self.turned(job, one, other)?;
         if self.slip == Slip::TurnRefuses {
             return Err(Refusal(12));
         }
-        let plan = draw(&job)?;
+        if self.slip == Slip::SizesLostByTurn {
+            job.sizes = None;
+        }
+        let plan = match self.draw(&job) {
+            Err(Refusal(18)) if self.slip == Slip::AnyTurnedSheet => {
+                place(&job, &number_walls(&job)?)
+            }
+            other => other?,
+        };
         let sheet = (plan.width, plan.height);
         if self.slip != Slip::RegisterKept && self.slip != Slip::TurnKeeps {
             self.walled = Some(plan.clone());
@@ -618,6 +866,9 @@ impl Planner for SlippedBoard {
         let (job, _) = self.held()?;
         match &self.loaded {
             Some(loaded) if self.slip == Slip::WritesOldJob => self.write(loaded.bytes(), buffer),
+            _ if self.slip == Slip::SizesNotWritten => {
+                self.write(Job::plain(job.stars.clone()).bytes(), buffer)
+            }
             _ => self.write(job.bytes(), buffer),
         }
     }
@@ -630,7 +881,7 @@ impl Planner for SlippedBoard {
     fn star<'a>(&self, bytes: &'a [u8], room: usize) -> &'a [u8] {
         let mut shorter = bytes;
         while self.slip == Slip::StarOfLongerJob && shorter.len() > 4 {
-            if reference::job::star_values(shorter).is_ok() {
+            if reference::job::values(shorter).is_ok() {
                 break;
             }
             shorter = &shorter[..shorter.len() - 1];

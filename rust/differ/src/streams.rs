@@ -5,9 +5,9 @@ use crate::planner::{answer_stream, Outcome, LARGEST_BUFFER, LOAD, RECTANGLE, SL
 use crate::planner::{TOUCH, TURN, WRITE_CUTS, WRITE_JOB, WRITE_PLAN, WRITE_WALLS};
 use crate::proofread::plan_fault;
 use crate::table::Table;
-use floors::Chance;
+use floors::{Chance, LARGEST_SHEET, LARGEST_SIZE};
 use reference::fields::put_field;
-use reference::{drawing, job, register, walls, Board, FIRST_ROOM};
+use reference::{drawing, job, register, walls, Board, Refusal, FIRST_ROOM};
 
 /// A stream in pieces: whole calls, and at the end perhaps one piece that breaks it.
 pub struct Stream {
@@ -99,6 +99,9 @@ impl Maker {
         let (answers, broken) = answer_stream(&mut self.board, &piece);
         for answer in &answers {
             table.count(answer.tag, answer.outcome);
+            if answer.tag == LOAD && has_sizes(&piece[3..]) {
+                table.count_sized(answer.outcome);
+            }
             self.stream.expected.push_str(&answer.line);
             self.stream.expected.push('\n');
         }
@@ -183,6 +186,10 @@ impl Maker {
                 let (one, other) = self.some_contact(chance);
                 (one, other + 256)
             }
+            3..=5 => {
+                let growing = self.some_growing(chance);
+                growing.unwrap_or_else(|| self.some_turnable(chance))
+            }
             _ => self.some_turnable(chance),
         };
         if chance.percent(50) {
@@ -205,6 +212,19 @@ impl Maker {
             contact = self.some_contact(chance);
         }
         contact
+    }
+
+    /// A contact of a large sheet whose turn would make it too large, if a few tries find one.
+    fn some_growing(&self, chance: &mut Chance) -> Option<(usize, usize)> {
+        let (job, plan) = (self.board.job()?, self.board.plan()?);
+        if plan.width.max(plan.height) + LARGEST_SIZE < LARGEST_SHEET {
+            return None;
+        }
+        let mut tries = (0..60).map(|_| self.some_contact(chance));
+        tries.find(|&(one, other)| {
+            let turned = reference::turning::turned(job, one, other);
+            turned.is_ok_and(|job| drawing::draw(&job) == Err(Refusal(18)))
+        })
     }
 
     fn some_room(&self, chance: &mut Chance) -> usize {
@@ -275,8 +295,13 @@ impl Maker {
     }
 }
 
+/// Whether a job has a field of sizes, and the shape of a job at all.
+fn has_sizes(bytes: &[u8]) -> bool {
+    job::values(bytes).is_ok_and(|values| values.sizes.is_some())
+}
+
 fn count_faults(bytes: &[u8], table: &mut Table) {
-    let job = job::read(bytes).expect("a job refused by 9 has passed tests 1 to 6");
+    let job = job::read(bytes).expect("a job refused by 9 has passed tests 1 to 6 and 17");
     let numbers = walls::number_walls(&job).expect("and test 7");
     table.count_faults(drawing::faults(&job, &drawing::place(&job, &numbers)));
 }

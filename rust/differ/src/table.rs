@@ -11,6 +11,8 @@ pub struct Table {
     seen: BTreeMap<(u8, Outcome), u64>,
     /// For loads refused by 9: which items of the drawing test failed together.
     faults: BTreeMap<[bool; 6], u64>,
+    /// Loads of jobs with a field of sizes, by what came of them.
+    sized: BTreeMap<Outcome, u64>,
     pub streams: u64,
     pub broken_streams: u64,
     /// Pairs of one job with two starts, by what came of both.
@@ -19,6 +21,8 @@ pub struct Table {
     told: BTreeMap<(&'static str, String), u64>,
     /// Pictures, by what is marked on them and by what came of it.
     pictures: BTreeMap<String, u64>,
+    /// Texts, by what was asked and by what came of it.
+    texts: BTreeMap<String, u64>,
     pub turned_back: u64,
     pub plans_checked: u64,
 }
@@ -36,8 +40,8 @@ const CALLS: [(u8, &str); 10] = [
     (STAR, "star"),
 ];
 
-/// The numbers of refusals; 8 is not used.
-const REFUSALS: [u8; 14] = [1, 2, 3, 4, 5, 6, 7, 9, 10, 11, 12, 13, 14, 15];
+/// The numbers of refusals, those of a load in the order of their tests; 8 is not used.
+const REFUSALS: [u8; 16] = [1, 2, 3, 4, 5, 6, 17, 7, 18, 9, 10, 11, 12, 13, 14, 15];
 
 const ITEMS: [&str; 6] = ["outside", "overlap", "area", "unjoined", "corner", "order"];
 
@@ -56,6 +60,10 @@ impl Table {
             faults.order,
         ];
         *self.faults.entry(key).or_default() += 1;
+    }
+
+    pub fn count_sized(&mut self, outcome: Outcome) {
+        *self.sized.entry(outcome).or_default() += 1;
     }
 
     pub fn count_pair(&mut self, loaded: &str, turned: &str) {
@@ -81,11 +89,23 @@ impl Table {
         *self.pictures.entry(name).or_default() += 1;
     }
 
+    /// A wrong line is told by what was expected there, any room as one.
+    pub fn count_text(&mut self, asked: &str, told: &[u8]) {
+        let text = String::from_utf8_lossy(told);
+        let name = match text.trim_end().split_once(": expected ") {
+            Some((_, number)) if number.starts_with("the number") => "no number".to_string(),
+            Some((_, expected)) => format!("no \"{expected}\""),
+            None => first_words(&text),
+        };
+        *self.texts.entry(format!("{asked}, {name}")).or_default() += 1;
+    }
+
     pub fn cases(&self) -> u64 {
         let calls = self.seen.values().chain(self.told.values());
         calls
             .chain(self.pairs.values())
             .chain(self.pictures.values())
+            .chain(self.texts.values())
             .sum()
     }
 
@@ -125,6 +145,15 @@ impl Table {
         all
     }
 
+    fn sized_in_words(&self) -> BTreeMap<String, u64> {
+        let name = |outcome: &Outcome| match outcome {
+            Outcome::Refused(number) => format!("refused {number}"),
+            _ => "accepted".to_string(),
+        };
+        let named = self.sized.iter().map(|(o, count)| (name(o), *count));
+        named.collect()
+    }
+
     /// An item that never fails alone is not shown to be looked at.
     fn print_faults(&self) {
         println!("drawing test, loads refused by 9: item, failed at all, failed alone");
@@ -148,11 +177,13 @@ impl Table {
             "{} streams, {} of them broken; {} plans checked cell by cell; {} turns made again at once",
             self.streams, self.broken_streams, self.plans_checked, self.turned_back
         );
+        println!("loads with sizes: {}", in_words(&self.sized_in_words()));
         println!("pairs of starts: {}", in_words(&self.pairs));
         for (program, counts) in self.by_program() {
             println!("{program}: {}", in_words(&counts));
         }
         println!("pictures: {}", in_words(&self.pictures));
+        println!("texts: {}", in_words(&self.texts));
         let never: Vec<String> = REFUSALS
             .into_iter()
             .filter(|&number| {

@@ -8,12 +8,14 @@ use crate::planner::OneJob;
 use crate::programs::UnderTest;
 use crate::proofread::plan_fault;
 use crate::shrink::{both_texts, Shrinker};
-use crate::slips::{Slip, ALL, OF_CUTS, OF_STARTS, OF_TOUCHES, OF_WALLS};
+use crate::slips::{Slip, ALL, OF_CUTS, OF_SIZES, OF_STARTS, OF_TEXTS, OF_TOUCHES, OF_WALLS};
 use crate::streams::{make_stream, Budget};
 use crate::table::Table;
+use crate::texts::{damaged_text, job_of, text_of};
 use floors::Chance;
 use reference::drawing::draw;
-use reference::{cuts, Board};
+use reference::job::Job;
+use reference::{cuts, Board, Refusal};
 use std::ops::Range;
 
 /// The first stream in which the planner under test differs.
@@ -63,7 +65,7 @@ fn a_slip_of_starts_is_found_without_the_reference() {
 /// Whether a program of one job prints something else for some job.
 fn told_otherwise(under_test: &UnderTest, program: OneJob) -> bool {
     let mut chance = Chance::new(11);
-    (0..500).any(|round| {
+    (0..3_000).any(|round| {
         let job = listing_job(&mut chance, round);
         under_test.told(program, &job) != program.text(&mut Board::empty(), &job)
     })
@@ -89,14 +91,68 @@ fn a_slip_of_walls_is_found_in_the_joiners_list() {
 }
 
 #[test]
+fn a_slip_of_sizes_is_found_in_the_listing() {
+    slips_show(&OF_SIZES, OneJob::Listing);
+}
+
+/// Whether some job has another text, or some text another job.
+fn texts_differ(under_test: &UnderTest) -> bool {
+    let mut chance = Chance::new(11);
+    (0..500).any(|round| {
+        let job = listing_job(&mut chance, round);
+        let text = text_of(&job, None);
+        let damaged = damaged_text(&mut chance, &text);
+        under_test.text(&job) != text
+            || under_test.job(&text) != job_of(&text, None)
+            || under_test.job(&damaged) != job_of(&damaged, None)
+    })
+}
+
+#[test]
+fn a_slip_of_texts_is_found() {
+    for slip in OF_TEXTS {
+        assert!(
+            texts_differ(&UnderTest::Slipped(slip)),
+            "{slip:?} is not found"
+        );
+    }
+    assert!(!texts_differ(&UnderTest::Reference));
+}
+
+/// A job that has a text is what that text says, with its sizes.
+#[test]
+fn a_job_told_and_read_is_the_same() {
+    let mut chance = Chance::new(5);
+    let mut with_sizes = 0;
+    for round in 0..2_000 {
+        let job = listing_job(&mut chance, round);
+        let text = text_of(&job, None);
+        if text.starts_with(b"4:") {
+            assert_eq!(job_of(&text, None), job);
+            with_sizes += usize::from(text.windows(8).any(|some| some == b"at least"));
+        }
+    }
+    assert!(with_sizes >= 300, "{with_sizes} with sizes");
+}
+
+/// All of them without their sizes; with them those whose sheet is not too large.
+#[test]
 fn floors_from_geometry_are_accepted() {
     let mut chance = Chance::new(5);
     for _ in 0..2_000 {
         let job = finished_floor(&mut chance);
-        let mut board = Board::empty();
-        assert!(board.load(&job.bytes()).is_ok(), "{job:?}");
-        let fault = plan_fault(&job, board.plan().unwrap());
-        assert_eq!(fault, None, "{job:?}");
+        let plain = Job::plain(job.stars.clone());
+        for job in [plain, job] {
+            let mut board = Board::empty();
+            match board.load(&job.bytes()) {
+                Err(Refusal(18)) => assert!(job.sizes.is_some(), "{job:?}"),
+                other => {
+                    assert!(other.is_ok(), "{job:?}");
+                    let fault = plan_fault(&job, board.plan().unwrap());
+                    assert_eq!(fault, None, "{job:?}");
+                }
+            }
+        }
     }
 }
 
@@ -111,7 +167,8 @@ fn a_third_of_the_floors_are_not_sliceable() {
     let mut chance = Chance::new(5);
     let (mut wholes, mut cut_somewhere) = (0, 0);
     for _ in 0..2_000 {
-        let plan = draw(&finished_floor(&mut chance)).expect("accepted");
+        let stars = finished_floor(&mut chance).stars;
+        let plan = draw(&Job::plain(stars)).expect("accepted");
         if !cuts::sliceable(&plan) {
             wholes += 1;
             let somewhere = !cuts::cuts(&plan, &cuts::all_rooms(&plan)).is_empty();

@@ -327,7 +327,7 @@ fn mirrored(chance: &mut Chance, mut floor: Floor) -> Floor {
 /// The stars as seen on the floor, or nothing where two rooms meet only at a corner.
 pub fn job_of(floor: &Floor) -> Option<Job> {
     let stars: Option<Vec<Star>> = floor.rooms.iter().map(|r| star_on(floor, r)).collect();
-    Some(Job { stars: stars? })
+    Some(Job::plain(stars?))
 }
 
 fn star_on(floor: &Floor, r: &Rectangle) -> Option<Star> {
@@ -397,6 +397,9 @@ pub fn renumbered(chance: &mut Chance, job: &Job) -> Job {
                 kind: entry.kind,
             })
             .collect();
+        if let (Some(sizes), Some(new)) = (&job.sizes, &mut result.sizes) {
+            new[renumber(room) - FIRST_ROOM] = sizes[room - FIRST_ROOM];
+        }
     }
     result
 }

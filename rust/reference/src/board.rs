@@ -27,13 +27,13 @@ impl Board {
         Board::default()
     }
 
-    /// Tests 1 to 7 and 9, each over the entire job before the next.
+    /// Tests 1 to 6, 17, 7, 18 and 9, each over the entire job before the next.
     pub fn load(&mut self, bytes: &[u8]) -> Result<Sheet, Refusal> {
         let job = read(bytes)?;
         self.hold(job)
     }
 
-    /// 10, 11, 12, then 7 and 9 of the turned labelling.
+    /// 10, 11, 12, then 7, 18 and 9 of the turned labelling.
     pub fn turn(&mut self, one: usize, other: usize) -> Result<Sheet, Refusal> {
         let job = turned(&self.held()?.job, one, other)?;
         self.hold(job)

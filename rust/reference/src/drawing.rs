@@ -7,6 +7,7 @@ use crate::{refusal, Refusal, ABOVE, BELOW, EAST, FIRST_ROOM, LEFT, NORTH, RIGHT
 
 const TAG_SHEET: u8 = 3;
 const TAG_RECTANGLE: u8 = 4;
+const LARGEST_SHEET: usize = 250;
 
 #[derive(Clone, Copy, Debug, PartialEq, Eq)]
 pub struct Rectangle {
@@ -48,19 +49,25 @@ impl Faults {
     }
 }
 
-/// Tests 7 and 9 of any stars that have passed the earlier ones.
+/// Tests 7, 18 and 9 of any job that has passed the earlier ones.
 pub fn draw(job: &Job) -> Result<Plan, Refusal> {
     let plan = place(job, &number_walls(job)?);
     debug_assert!(within_bound(job, &plan), "a sheet past the bound of W1");
+    if plan.width.max(plan.height) > LARGEST_SHEET {
+        return Err(refusal::SHEET_TOO_LARGE);
+    }
     if faults(job, &plan).any() {
         return Err(refusal::UNDRAWABLE);
     }
     Ok(plan)
 }
 
-/// Every wall but the first holds the far side of some room, so no sheet passes the number of rooms plus 2.
+/// Every wall but the first holds the far side of some room, so no sheet passes what all rooms ask for one behind the other, plus 2: without sizes the number
+/// of rooms plus 2.
 pub fn within_bound(job: &Job, plan: &Plan) -> bool {
-    plan.width.max(plan.height) <= job.stars.len() + 2
+    let widths: usize = job.rooms().map(|room| job.size_of(room).width).sum();
+    let heights: usize = job.rooms().map(|room| job.size_of(room).height).sum();
+    plan.width <= widths + 2 && plan.height <= heights + 2
 }
 
 /// The rectangles, frame included, of numbered walls.

@@ -2,7 +2,7 @@
 
 use crate::cuts::Part;
 use crate::drawing::{stretch, touch, within_bound, Rectangle, Touch};
-use crate::job::{Entry, Job};
+use crate::job::{Entry, Job, Size, ONE_CELL};
 use crate::register::Wall;
 use crate::{opposite, star, Board, Refusal, ABOVE, BELOW, LEFT, RIGHT};
 
@@ -25,10 +25,7 @@ fn job(stars: &[&[(usize, u8)]]) -> Vec<u8> {
             .map(|&(neighbour, kind)| Entry { neighbour, kind })
             .collect()
     };
-    Job {
-        stars: stars.iter().map(star).collect(),
-    }
-    .bytes()
+    Job::plain(stars.iter().map(star).collect()).bytes()
 }
 
 fn load(bytes: &[u8]) -> Result<(usize, usize), Refusal> {
@@ -42,7 +39,7 @@ fn loaded(bytes: &[u8]) -> Board {
 }
 
 fn written(board: &Board) -> Vec<u8> {
-    let mut buffer = vec![0; 904];
+    let mut buffer = vec![0; 1027];
     let length = board.write_job(&mut buffer).expect("no job is longer");
     buffer.truncate(length);
     buffer
@@ -101,14 +98,18 @@ fn p6_both_in_one_place() {
     assert_eq!(load(&job(&[alone, alone])), Err(Refusal(9)));
 }
 
-#[test]
-fn p7_a_circle() {
-    let ring = job(&[
+/// Rooms 4, 5, 6, each right of the one before, and 4 right of 6.
+fn ring() -> Vec<u8> {
+    job(&[
         &[(0, 0), (6, 1), (2, 2), (5, 3)],
         &[(0, 0), (4, 1), (2, 2), (6, 3)],
         &[(0, 0), (5, 1), (2, 2), (4, 3)],
-    ]);
-    assert_eq!(load(&ring), Err(Refusal(7)));
+    ])
+}
+
+#[test]
+fn p7_a_circle() {
+    assert_eq!(load(&ring()), Err(Refusal(7)));
 }
 
 #[test]
@@ -299,7 +300,7 @@ fn sixty_rooms_in_a_row_and_one_more() {
     assert_eq!(load(&row(61)), Err(Refusal(2)));
 }
 
-/// W1: as wide as the number of rooms plus 2, and never wider, turned or not.
+/// W1: as wide as the number of rooms plus 2, and never wider, turned or not; since W9 of jobs without sizes.
 #[test]
 fn a_sheet_stays_within_the_number_of_rooms_plus_two() {
     let mut floor = loaded(&bytes(F));
@@ -791,4 +792,314 @@ fn cuts_are_written_as_fields_of_tags_5_and_6() {
     let mut short = vec![0xAA; 30];
     assert_eq!(board.write_cuts(&mut short), Err(Refusal(14)));
     assert!(short.iter().all(|&byte| byte == 0xAA));
+}
+
+/// A job with a field of sizes behind it, as (width, height) by room.
+fn sized(mut job: Vec<u8>, sizes: &[(u8, u8)]) -> Vec<u8> {
+    job.extend([7, 0, 2 * sizes.len() as u8]);
+    job.extend(sizes.iter().flat_map(|&(width, height)| [width, height]));
+    job
+}
+
+/// Rooms 4 to 7 of F get the sizes 1 by 3, 3 by 2, 2 by 1 and 1 by 2.
+const SIZES_OF_F: [(u8, u8); 4] = [(1, 3), (3, 2), (2, 1), (1, 2)];
+
+fn sized_f() -> Vec<u8> {
+    sized(bytes(F), &SIZES_OF_F)
+}
+
+/// W9: where a size binds, walls move; a contact still asks for 1.
+#[test]
+fn f_with_sizes() {
+    let board = loaded(&sized_f());
+    assert_eq!(load(&sized_f()), Ok((7, 8)));
+    let expected = [
+        at(1, 7, 6, 8),
+        at(0, 0, 1, 8),
+        at(1, 0, 6, 1),
+        at(6, 0, 7, 8),
+        at(1, 4, 3, 7),
+        at(3, 3, 6, 7),
+        at(1, 1, 3, 4),
+        at(3, 1, 6, 3),
+    ];
+    for (vertex, rectangle) in expected.into_iter().enumerate() {
+        assert_eq!(board.rectangle(vertex), rectangle);
+    }
+    assert_eq!(board.touch(5, 6), shared(LEFT, 1));
+    assert_eq!(board.touch(5, 4), shared(LEFT, 3));
+    let walls = told_walls(&board);
+    assert_eq!(walls[1], [0, 3, 1, 7, 4]);
+    assert_eq!(walls[4..6], [[1, 3, 3, 6, 2], [1, 4, 1, 3, 2]]);
+    assert_eq!(told_cuts(&board)[..2], [vec![0, 3], vec![1, 4]]);
+}
+
+/// W9: a turn keeps the sizes, and made again it gives back the plan before it.
+#[test]
+fn f_with_sizes_turned_and_turned_back() {
+    let before = loaded(&sized_f());
+    let mut board = before.clone();
+    assert_eq!(board.turn(5, 6), Ok((6, 7)));
+    assert_eq!(board.rectangle(4), at(1, 3, 2, 6));
+    assert_eq!(board.rectangle(5), at(2, 3, 5, 6));
+    assert_eq!(board.rectangle(6), at(1, 1, 3, 3));
+    assert_eq!(board.rectangle(7), at(3, 1, 5, 3));
+    let turned = written(&board);
+    assert_eq!(turned[52..], bytes("07 00 08 01 03 03 02 02 01 01 02"));
+    assert_eq!(loaded(&turned), board);
+    assert_eq!(board.turn(6, 5), Ok((7, 8)));
+    assert_eq!(board, before);
+}
+
+#[test]
+fn a_job_is_written_with_its_sizes_or_without_the_field() {
+    assert_eq!(written(&loaded(&sized_f())), sized_f());
+    assert_eq!(written(&loaded(&bytes(F))), bytes(F));
+    let mut short = vec![0xAA; sized_f().len() - 1];
+    assert_eq!(loaded(&sized_f()).write_job(&mut short), Err(Refusal(14)));
+    assert!(short.iter().all(|&byte| byte == 0xAA));
+}
+
+/// Sizes that a floor has anyway change nothing but the writing.
+#[test]
+fn sizes_that_do_not_bind() {
+    let roomy = loaded(&sized(bytes(F), &[(1, 1), (1, 2), (1, 2), (1, 1)]));
+    assert_eq!(roomy.plan(), loaded(&bytes(F)).plan());
+    assert_ne!(roomy, loaded(&bytes(F)));
+}
+
+/// A width is no height: one room 3 wide and 2 high.
+#[test]
+fn the_width_comes_before_the_height() {
+    let board = loaded(&sized(bytes(P1), &[(3, 2)]));
+    assert_eq!(board.rectangle(4), at(1, 1, 4, 3));
+    assert_eq!(board.rectangle(3), at(4, 0, 5, 4));
+    let job = board.job().unwrap();
+    let size = Size {
+        width: 3,
+        height: 2,
+    };
+    assert_eq!(job.size_of(4), size);
+    assert_eq!(loaded(&bytes(P1)).job().unwrap().size_of(4), ONE_CELL);
+}
+
+#[test]
+fn a_size_is_1_to_15_and_one_of_them_is_larger() {
+    let with = |sizes: &[(u8, u8)]| load(&sized(bytes(P1), sizes));
+    assert_eq!(with(&[(1, 1)]), Err(Refusal(17)));
+    for outside in [0, 16, 17, 128, 255] {
+        assert_eq!(with(&[(outside, 2)]), Err(Refusal(17)));
+        assert_eq!(with(&[(2, outside)]), Err(Refusal(17)));
+    }
+    assert_eq!(with(&[(15, 15)]), Ok((17, 17)));
+    assert_eq!(with(&[(1, 2)]), Ok((3, 4)));
+    let ones = sized(bytes(F), &[(1, 1); 4]);
+    assert_eq!(load(&ones), Err(Refusal(17)));
+    for place in 0..8 {
+        let mut larger = ones.clone();
+        larger[55 + place] = 2;
+        assert!(load(&larger).is_ok());
+        for outside in [0, 16] {
+            larger[55 + place] = outside;
+            assert_eq!(load(&larger), Err(Refusal(17)));
+        }
+    }
+}
+
+#[test]
+fn a_field_of_sizes_has_its_tag_its_length_and_its_place() {
+    let whole = sized_f();
+    let field = whole[52..].to_vec();
+    let first_star = 4..15;
+    let refused = |job: Vec<u8>| assert_eq!(load(&job), Err(Refusal(1)));
+    // Another tag, another length, twice, cut short, something behind it.
+    for tag in [0, 1, 2, 3, 6, 8, 17] {
+        let mut other = whole.clone();
+        other[52] = tag;
+        refused(other);
+    }
+    for rooms in [0, 1, 3, 5, 60] {
+        refused(sized(bytes(F), &vec![(2, 2); rooms]));
+    }
+    let odd = |length: u8| {
+        let mut value = vec![2; usize::from(length)];
+        let mut job = bytes(F);
+        job.extend([7, 0, length]);
+        job.append(&mut value);
+        job
+    };
+    refused(odd(7));
+    refused(odd(9));
+    refused([whole.clone(), field.clone()].concat());
+    refused(whole[..whole.len() - 1].to_vec());
+    refused([whole.clone(), vec![0]].concat());
+    let mut longer = whole.clone();
+    longer[53] = 1;
+    refused(longer);
+    // In front of all, in front of the stars, between them.
+    let plain = bytes(F);
+    for place in [0, first_star.start, first_star.end] {
+        refused([&plain[..place], &field[..], &plain[place..]].concat());
+    }
+    // The number of rooms is judged before.
+    assert_eq!(load(&sized(bytes("01 00 01 00"), &[])), Err(Refusal(2)));
+    assert_eq!(load(&sized(row(61), &[(2, 2); 61])), Err(Refusal(2)));
+}
+
+/// Each is refused by its own test, whatever the sizes are.
+#[test]
+fn sizes_are_tested_behind_6_and_before_7() {
+    let outside = |job: Vec<u8>, rooms: usize| load(&sized(job, &vec![(0, 16); rooms]));
+    let crowded = {
+        let stars = vec![vec![(0usize, 0u8); 91]; 4];
+        let stars: Vec<&[(usize, u8)]> = stars.iter().map(Vec::as_slice).collect();
+        job(&stars)
+    };
+    assert_eq!(outside(crowded, 4), Err(Refusal(3)));
+    let itself: &[(usize, u8)] = &[(4, 0), (1, 1), (2, 2), (3, 3)];
+    assert_eq!(outside(job(&[itself]), 1), Err(Refusal(4)));
+    assert_eq!(outside(job(&[&[]]), 1), Err(Refusal(5)));
+    let one_sided = job(&[
+        &[(0, 0), (1, 1), (2, 2), (5, 3)],
+        &[(0, 0), (1, 1), (2, 2), (3, 3)],
+    ]);
+    assert_eq!(outside(one_sided, 2), Err(Refusal(6)));
+    assert_eq!(outside(ring(), 3), Err(Refusal(17)));
+    assert_eq!(load(&sized(ring(), &[(1, 1); 3])), Err(Refusal(17)));
+    assert_eq!(load(&sized(ring(), &[(15, 1); 3])), Err(Refusal(7)));
+}
+
+#[test]
+fn a_row_of_rooms_15_wide() {
+    let wide = |rooms: usize| sized(row(rooms), &vec![(15, 1); rooms]);
+    assert_eq!(load(&wide(17)), Err(Refusal(18)));
+    assert_eq!(load(&wide(16)), Ok((242, 3)));
+    assert_eq!(loaded(&wide(16)).rectangle(19), at(226, 1, 241, 2));
+    assert_eq!(written(&loaded(&wide(16))), wide(16));
+    assert_eq!(load(&wide(60)), Err(Refusal(18)));
+}
+
+/// 250 either way is held, 251 is not.
+#[test]
+fn the_largest_sheet() {
+    let last = |least: u8| {
+        let mut sizes = vec![(15, 1); 17];
+        sizes[16].0 = least;
+        sizes
+    };
+    assert_eq!(load(&sized(row(17), &last(8))), Ok((250, 3)));
+    assert_eq!(load(&sized(row(17), &last(9))), Err(Refusal(18)));
+    let upward = |least: u8| -> Vec<(u8, u8)> {
+        let wide = last(least).into_iter();
+        wide.map(|(width, height)| (height, width)).collect()
+    };
+    assert_eq!(load(&sized(column(17), &upward(8))), Ok((3, 250)));
+    assert_eq!(load(&sized(column(17), &upward(9))), Err(Refusal(18)));
+    let high = loaded(&sized(column(17), &upward(8)));
+    assert_eq!(high.rectangle(20), at(1, 241, 2, 249));
+}
+
+fn column(rooms: usize) -> Vec<u8> {
+    let stars: Vec<Vec<(usize, u8)>> = (4..rooms + 4)
+        .map(|room| {
+            let below = if room == 4 { 2 } else { room - 1 };
+            let above = if room == rooms + 3 { 0 } else { room + 1 };
+            vec![(above, 0), (1, 1), (below, 2), (3, 3)]
+        })
+        .collect();
+    let stars: Vec<&[(usize, u8)]> = stars.iter().map(Vec::as_slice).collect();
+    job(&stars)
+}
+
+/// Three rooms side by side over a stack of 17: in a ring, or between W and E.
+fn stack_under_three(ring: bool, height: u8) -> Vec<u8> {
+    let (first, last) = if ring { (23, 21) } else { (1, 3) };
+    let mut stars: Vec<Vec<(usize, u8)>> = (4..21)
+        .map(|room| {
+            let below = if room == 4 { 2 } else { room - 1 };
+            vec![(room + 1, 0), (1, 1), (below, 2), (3, 3)]
+        })
+        .collect();
+    stars[16] = vec![(23, 0), (22, 0), (21, 0), (1, 1), (19, 2), (3, 3)];
+    for (left, right) in [(first, 22), (21, 23), (22, last)] {
+        stars.push(vec![(0, 0), (left, 1), (20, 2), (right, 3)]);
+    }
+    let stars: Vec<&[(usize, u8)]> = stars.iter().map(Vec::as_slice).collect();
+    sized(job(&stars), &[(1, height); 20])
+}
+
+/// Of a sheet too high in which rooms run in a ring, 7 is told.
+#[test]
+fn a_circle_is_told_before_the_sheet() {
+    assert_eq!(load(&stack_under_three(false, 13)), Ok((5, 236)));
+    assert_eq!(load(&stack_under_three(false, 15)), Err(Refusal(18)));
+    assert_eq!(load(&stack_under_three(true, 15)), Err(Refusal(7)));
+    assert_eq!(load(&stack_under_three(true, 2)), Err(Refusal(7)));
+}
+
+/// A row that is too wide, and a room that lies over all of it: 18 before 9.
+#[test]
+fn the_sheet_is_told_before_the_drawing() {
+    let mut covered = crate::job::read(&row(17)).unwrap();
+    let frame = (0..4u8).map(|kind| Entry {
+        neighbour: usize::from(kind),
+        kind,
+    });
+    covered.stars.push(frame.collect());
+    let with = |least: u8| load(&sized(covered.bytes(), &[(least, 1); 18]));
+    assert_eq!(with(14), Err(Refusal(9)));
+    assert_eq!(with(15), Err(Refusal(18)));
+}
+
+/// F turned, its rooms so wide that F itself is wider, and 15 rooms to the right of it.
+#[test]
+fn a_turn_to_a_sheet_too_large_is_refused() {
+    let mut stars: Vec<Vec<(usize, u8)>> = vec![
+        vec![(0, 0), (1, 1), (6, 2), (5, 3)],
+        vec![(0, 0), (4, 1), (6, 2), (7, 2), (8, 3)],
+        vec![(5, 0), (4, 0), (1, 1), (2, 2), (7, 3)],
+        vec![(5, 0), (6, 1), (2, 2), (8, 3)],
+        vec![(0, 0), (5, 1), (7, 1), (2, 2), (9, 3)],
+    ];
+    for room in 9..23 {
+        let right = if room == 22 { 3 } else { room + 1 };
+        stars.push(vec![(0, 0), (room - 1, 1), (2, 2), (right, 3)]);
+    }
+    let stars: Vec<&[(usize, u8)]> = stars.iter().map(Vec::as_slice).collect();
+    let with = |row: u8| {
+        let mut sizes = vec![(1, 1), (15, 1), (15, 1), (1, 1)];
+        sizes.extend(vec![(row, 1); 15]);
+        loaded(&sized(job(&stars), &sizes))
+    };
+    let mut board = with(15);
+    let before = board.clone();
+    assert_eq!(board.plan().unwrap().width, 1 + 16 + 15 * 15 + 1);
+    assert_eq!(board.turn(5, 6), Err(Refusal(18)));
+    assert_eq!(board, before);
+    assert_eq!(with(14).turn(5, 6), Ok((1 + 30 + 15 * 14 + 1, 5)));
+}
+
+/// The star question asks nothing of the sizes but their field's shape.
+#[test]
+fn stars_of_a_job_with_sizes() {
+    let floor = sized_f();
+    assert_eq!(star(&floor, 5), star(&bytes(F), 5));
+    assert_eq!(star(&sized(bytes(F), &[(0, 16); 4]), 7).len(), 8);
+    assert!(star(&sized(bytes(F), &[(2, 2); 3]), 5).is_empty());
+    assert!(star(&[floor.clone(), floor[52..].to_vec()].concat(), 5).is_empty());
+    assert!(star(&floor, 8).is_empty());
+}
+
+#[test]
+fn a_refused_load_of_sizes_keeps_the_held_plan() {
+    let mut board = loaded(&sized_f());
+    let before = board.clone();
+    assert_eq!(board.load(&sized(bytes(F), &[(1, 1); 4])), Err(Refusal(17)));
+    assert_eq!(
+        board.load(&sized(row(17), &[(15, 15); 17])),
+        Err(Refusal(18))
+    );
+    assert_eq!(board, before);
+    assert_eq!(board.load(&bytes(F)), Ok((4, 5)));
+    assert_eq!(board, loaded(&bytes(F)));
 }

@@ -1,12 +1,14 @@
-//! A job: its bytes, and tests 1 to 6, which look at nothing but the stars.
+//! A job: its bytes, tests 1 to 6, which look at nothing but the stars, and test 17 of the sizes.
 
 use crate::fields::{put_field, Reader};
 use crate::{opposite, refusal, Refusal, EAST, FIRST_ROOM};
 
 const TAG_ROOM_COUNT: u8 = 1;
 const TAG_STAR: u8 = 2;
+const TAG_SIZES: u8 = 7;
 const MOST_ROOMS: usize = 60;
 const MOST_PAIRS: usize = 360;
+const LARGEST_SIZE: usize = 15;
 
 /// One pair of a star.
 #[derive(Clone, Copy, Debug, PartialEq, Eq)]
@@ -17,13 +19,32 @@ pub struct Entry {
 
 pub type Star = Vec<Entry>;
 
-/// The stars of rooms 4, 5 and so on.
+/// The least width and the least height of a room.
+#[derive(Clone, Copy, Debug, PartialEq, Eq)]
+pub struct Size {
+    pub width: usize,
+    pub height: usize,
+}
+
+/// What a room has that is sent no size.
+pub const ONE_CELL: Size = Size {
+    width: 1,
+    height: 1,
+};
+
+/// The stars of rooms 4, 5 and so on, and the sizes of the same rooms where they were sent.
 #[derive(Clone, Debug, PartialEq, Eq)]
 pub struct Job {
     pub stars: Vec<Star>,
+    pub sizes: Option<Vec<Size>>,
 }
 
 impl Job {
+    /// A job without the field of sizes: 1 throughout.
+    pub fn plain(stars: Vec<Star>) -> Job {
+        Job { stars, sizes: None }
+    }
+
     pub fn rooms(&self) -> std::ops::Range<usize> {
         FIRST_ROOM..self.vertices()
     }
@@ -45,6 +66,11 @@ impl Job {
         &mut self.stars[room - FIRST_ROOM]
     }
 
+    pub fn size_of(&self, room: usize) -> Size {
+        let sent = self.sizes.as_ref();
+        sent.map_or(ONE_CELL, |sizes| sizes[room - FIRST_ROOM])
+    }
+
     /// The kind with which the room lists the neighbour, if it does.
     pub fn kind_of(&self, room: usize, neighbour: usize) -> Option<u8> {
         self.star_of(room)
@@ -63,7 +89,7 @@ impl Job {
         self.stars.iter().map(Vec::len).sum()
     }
 
-    /// The job's bytes. Neighbour numbers must fit one byte.
+    /// The job's bytes, with the field of sizes where they were sent. Neighbour numbers and sizes must fit one byte.
     pub fn bytes(&self) -> Vec<u8> {
         let mut out = Vec::new();
         put_field(&mut out, TAG_ROOM_COUNT, &[self.stars.len() as u8]);
@@ -74,25 +100,44 @@ impl Job {
                 .collect();
             put_field(&mut out, TAG_STAR, &value);
         }
+        if let Some(sizes) = &self.sizes {
+            let value: Vec<u8> = sizes
+                .iter()
+                .flat_map(|size| [size.width as u8, size.height as u8])
+                .collect();
+            put_field(&mut out, TAG_SIZES, &value);
+        }
         out
     }
 }
 
-/// Tests 1 and 2: the values of the star fields, each the very bytes of the job.
-pub fn star_values(bytes: &[u8]) -> Result<Vec<&[u8]>, Refusal> {
+/// The values of a job's fields behind the first, each the very bytes of the job.
+#[derive(Clone, Debug, PartialEq, Eq)]
+pub struct Values<'a> {
+    pub stars: Vec<&'a [u8]>,
+    pub sizes: Option<&'a [u8]>,
+}
+
+/// Tests 1 and 2: the fields of the stars, and behind them at most one of the sizes.
+pub fn values(bytes: &[u8]) -> Result<Values<'_>, Refusal> {
     let mut reader = Reader::new(bytes);
     let count = room_count(&mut reader)?;
     if count == 0 || count > MOST_ROOMS {
         return Err(refusal::ROOM_COUNT);
     }
-    let mut values = Vec::new();
+    let mut stars = Vec::new();
     for _ in 0..count {
-        values.push(star_value(&mut reader)?);
+        stars.push(star_value(&mut reader)?);
     }
+    let sizes = if reader.at_end() {
+        None
+    } else {
+        Some(size_value(&mut reader, count)?)
+    };
     if !reader.at_end() {
         return Err(refusal::BYTES);
     }
-    Ok(values)
+    Ok(Values { stars, sizes })
 }
 
 fn room_count(reader: &mut Reader) -> Result<usize, Refusal> {
@@ -111,30 +156,50 @@ fn star_value<'a>(reader: &mut Reader<'a>) -> Result<&'a [u8], Refusal> {
     Ok(field.value)
 }
 
+/// Two bytes for each room.
+fn size_value<'a>(reader: &mut Reader<'a>, rooms: usize) -> Result<&'a [u8], Refusal> {
+    let field = reader.next_field().ok_or(refusal::BYTES)?;
+    if field.tag != TAG_SIZES || field.value.len() != 2 * rooms {
+        return Err(refusal::BYTES);
+    }
+    Ok(field.value)
+}
+
 /// The star question: the bytes of one room's star, empty where tests 1 or 2 fail or there is no such room.
 pub fn star(bytes: &[u8], room: usize) -> &[u8] {
-    let Ok(values) = star_values(bytes) else {
+    let Ok(values) = values(bytes) else {
         return &[];
     };
     room.checked_sub(FIRST_ROOM)
-        .and_then(|place| values.get(place).copied())
+        .and_then(|place| values.stars.get(place).copied())
         .unwrap_or(&[])
 }
 
-/// Tests 1 to 6, each over the entire job before the next.
+/// Tests 1 to 6 and 17, each over the entire job before the next.
 pub fn read(bytes: &[u8]) -> Result<Job, Refusal> {
-    read_by(bytes, star_is_fit)
+    let job = read_by(bytes, star_is_fit)?;
+    if !sizes_are_fit(&job) {
+        return Err(refusal::BAD_SIZE);
+    }
+    Ok(job)
 }
 
-/// The same with another test 5 of a star, which the comparison's planners with a slip bring along.
-pub fn read_by(bytes: &[u8], star_is_fit: impl Fn(&Star) -> bool) -> Result<Job, Refusal> {
-    let values = star_values(bytes)?;
+/// Tests 1 to 3: a job that can be held, whatever its stars say.
+pub fn hold(bytes: &[u8]) -> Result<Job, Refusal> {
+    let values = values(bytes)?;
     let job = Job {
-        stars: values.into_iter().map(entries).collect(),
+        stars: values.stars.into_iter().map(entries).collect(),
+        sizes: values.sizes.map(sizes),
     };
     if job.pairs() > MOST_PAIRS {
         return Err(refusal::PAIR_COUNT);
     }
+    Ok(job)
+}
+
+/// Tests 1 to 6 with another test 5 of a star, which the comparison's planners with a slip bring along.
+pub fn read_by(bytes: &[u8], star_is_fit: impl Fn(&Star) -> bool) -> Result<Job, Refusal> {
+    let job = hold(bytes)?;
     if !job.rooms().all(|room| entries_are_fit(&job, room)) {
         return Err(refusal::BAD_ENTRY);
     }
@@ -153,6 +218,16 @@ fn entries(value: &[u8]) -> Star {
         .map(|pair| Entry {
             neighbour: usize::from(pair[0]),
             kind: pair[1],
+        })
+        .collect()
+}
+
+fn sizes(value: &[u8]) -> Vec<Size> {
+    value
+        .chunks_exact(2)
+        .map(|pair| Size {
+            width: usize::from(pair[0]),
+            height: usize::from(pair[1]),
         })
         .collect()
 }
@@ -205,4 +280,18 @@ fn neighbours_agree(job: &Job, room: usize) -> bool {
         .iter()
         .filter(|entry| job.is_room(entry.neighbour))
         .all(|entry| job.kind_of(entry.neighbour, room) == Some(opposite(entry.kind)))
+}
+
+/// Test 17. Sizes that are all 1 are refused, so that a job has one writing.
+pub fn sizes_are_fit(job: &Job) -> bool {
+    let Some(sizes) = &job.sizes else {
+        return true;
+    };
+    sizes.iter().all(size_is_fit) && sizes.iter().any(|&size| size != ONE_CELL)
+}
+
+fn size_is_fit(size: &Size) -> bool {
+    [size.width, size.height]
+        .iter()
+        .all(|least| (1..=LARGEST_SIZE).contains(least))
 }

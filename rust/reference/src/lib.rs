@@ -23,7 +23,7 @@ pub use job::star;
 #[derive(Clone, Copy, Debug, PartialEq, Eq, PartialOrd, Ord)]
 pub struct Refusal(pub u8);
 
-/// The refusals, in the document's order; 8 is not used.
+/// The refusals, by their numbers; 8 is not used.
 pub mod refusal {
     use super::Refusal;
 
@@ -41,6 +41,8 @@ pub mod refusal {
     pub const NO_SUCH_VERTEX: Refusal = Refusal(13);
     pub const BUFFER_TOO_SHORT: Refusal = Refusal(14);
     pub const NOT_SLICEABLE: Refusal = Refusal(15);
+    pub const BAD_SIZE: Refusal = Refusal(17);
+    pub const SHEET_TOO_LARGE: Refusal = Refusal(18);
 }
 
 /// The frame sides; each also is the number of the one kind with which it may appear.

@@ -1,4 +1,4 @@
-//! Turning one contact by the written rule: two kinds change where they stand, and no entry moves.
+//! Turning one contact by the written rule: two kinds change where they stand, no entry moves, and the sizes stay.
 
 use crate::job::{round, Job, Star};
 use crate::{refusal, Refusal, ABOVE, BELOW, LEFT, RIGHT};

@@ -1,6 +1,6 @@
 //! Walls and their numbers: sides joined by contacts, then longest paths.
 
-use crate::job::Job;
+use crate::job::{Job, Size};
 use crate::{refusal, Refusal, ABOVE, BELOW, EAST, LEFT, NORTH, RIGHT, SOUTH, WEST};
 
 /// The wall numbers of the rooms' sides, by vertex number (the frame's places in the four lists stay unused).
@@ -28,6 +28,16 @@ pub fn number_walls(job: &Job) -> Result<WallNumbers, Refusal> {
     })
 }
 
+/// The number of E's left wall, then that of N's bottom wall, each where its own count runs in no circle. The comparison's planners with a slip look at
+/// one before the other.
+pub fn far_walls(job: &Job) -> [Option<usize>; 2] {
+    let last = |direction: &Direction| {
+        let count = one_count(job, direction).ok();
+        count.map(|count| count.near[direction.end])
+    };
+    [last(&UPRIGHT), last(&LEVEL)]
+}
+
 /// What tells upright walls from level ones: which contacts join two sides, and which only say "before".
 struct Direction {
     /// The neighbour of this kind has its near side on our far side.
@@ -39,6 +49,8 @@ struct Direction {
     end_kind: u8,
     /// Two rooms in this contact overlap across the direction, so each one's near wall precedes the other's far wall.
     crossing: u8,
+    /// How far a room's near wall comes before its far wall, at least.
+    least: fn(Size) -> usize,
 }
 
 /// Near is left, far is right.
@@ -49,6 +61,7 @@ const UPRIGHT: Direction = Direction {
     end: EAST,
     end_kind: RIGHT,
     crossing: ABOVE,
+    least: |size| size.width,
 };
 
 /// Near is lower, far is upper.
@@ -59,6 +72,7 @@ const LEVEL: Direction = Direction {
     end: NORTH,
     end_kind: ABOVE,
     crossing: RIGHT,
+    least: |size| size.height,
 };
 
 /// Numbers of the near and the far sides, by vertex.
@@ -106,39 +120,51 @@ fn join_sides(job: &Job, direction: &Direction, walls: &mut Joined) {
     }
 }
 
-/// All pairs (earlier wall, later wall).
-fn before_rules(job: &Job, direction: &Direction, walls: &mut Joined) -> Vec<(usize, usize)> {
+/// One wall comes before another, by at least so much.
+struct Before {
+    earlier: usize,
+    later: usize,
+    least: usize,
+}
+
+/// A room asks for its least size, a contact for 1.
+fn before_rules(job: &Job, direction: &Direction, walls: &mut Joined) -> Vec<Before> {
     let mut sides = Vec::new();
     for room in job.rooms() {
-        sides.push((near_side(room), far_side(room)));
+        let least = (direction.least)(job.size_of(room));
+        sides.push((near_side(room), far_side(room), least));
         for entry in job.star_of(room) {
             if job.is_room(entry.neighbour) && entry.kind == direction.crossing {
-                sides.push((near_side(room), far_side(entry.neighbour)));
-                sides.push((near_side(entry.neighbour), far_side(room)));
+                sides.push((near_side(room), far_side(entry.neighbour), 1));
+                sides.push((near_side(entry.neighbour), far_side(room), 1));
             }
         }
     }
     sides
         .into_iter()
-        .map(|(earlier, later)| (walls.wall_of(earlier), walls.wall_of(later)))
+        .map(|(earlier, later, least)| Before {
+            earlier: walls.wall_of(earlier),
+            later: walls.wall_of(later),
+            least,
+        })
         .collect()
 }
 
 /// Walls are taken once all that come before them are numbered; if some are never taken, they run in a circle.
-fn longest_paths(count: usize, before: &[(usize, usize)]) -> Option<Vec<usize>> {
+fn longest_paths(count: usize, before: &[Before]) -> Option<Vec<usize>> {
     let mut waiting_for = vec![0usize; count];
     let mut later_walls = vec![Vec::new(); count];
-    for &(earlier, later) in before {
-        waiting_for[later] += 1;
-        later_walls[earlier].push(later);
+    for rule in before {
+        waiting_for[rule.later] += 1;
+        later_walls[rule.earlier].push((rule.later, rule.least));
     }
     let mut numbers = vec![1usize; count];
     let mut ready: Vec<usize> = (0..count).filter(|&wall| waiting_for[wall] == 0).collect();
     let mut taken = 0;
     while let Some(wall) = ready.pop() {
         taken += 1;
-        for &later in &later_walls[wall] {
-            numbers[later] = numbers[later].max(numbers[wall] + 1);
+        for &(later, least) in &later_walls[wall] {
+            numbers[later] = numbers[later].max(numbers[wall] + least);
             waiting_for[later] -= 1;
             if waiting_for[later] == 0 {
                 ready.push(later);

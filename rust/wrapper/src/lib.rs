@@ -3,7 +3,7 @@
 //! `plan_into`, `walls_into`, `cuts_into`, `turned_into` and `star_into` write to a lent buffer and tell the length: the front is filled, what lies behind
 //! stays as it was, and a refusal leaves every byte. `plan`, `walls`, `cuts`, `turned` and `star` bring a buffer that always suffices.
 
-/// The number of a refusal, 1 to 15; 8 is not used.
+/// The number of a refusal, 1 to 15, 17 or 18; 8 is not used.
 #[derive(Clone, Copy, Debug, PartialEq, Eq)]
 pub struct Refusal(pub u8);
 
@@ -23,8 +23,8 @@ pub const WALLS_MOST: usize = 63 * 8;
 /// No tree of cuts is longer: 60 rooms and 59 cuts.
 pub const CUTS_MOST: usize = 60 * 4 + 59 * 5;
 
-/// No accepted job is longer: 60 stars of 360 pairs.
-pub const JOB_MOST: usize = 4 + 60 * 3 + 360 * 2;
+/// No accepted job is longer: 60 stars of 360 pairs, and 60 least sizes.
+pub const JOB_MOST: usize = 4 + 60 * 3 + 360 * 2 + 3 + 60 * 2;
 
 /// From here on an answer is no refusal.
 const FIRST_VALUE: usize = 256;
@@ -89,7 +89,7 @@ pub fn cuts(job: &[u8]) -> Result<Vec<u8>, Refusal> {
     written(CUTS_MOST, |out| cuts_into(job, out))
 }
 
-/// The job with the contact of two rooms turned.
+/// The job with the contact of two rooms turned, and with the least sizes that it came with.
 pub fn turned(job: &[u8], u: usize, v: usize) -> Result<Vec<u8>, Refusal> {
     written(JOB_MOST, |out| turned_into(job, u, v, out))
 }

@@ -4,7 +4,7 @@ use tirunoiwa::{cuts, plan, star, touch, turned, walls};
 use tirunoiwa::{cuts_into, plan_into, star_into, turned_into, walls_into};
 use tirunoiwa::{Refusal, Touch, CUTS_MOST, JOB_MOST, PLAN_MOST, WALLS_MOST};
 
-const MOST: usize = 1024;
+const MOST: usize = 1100;
 
 /// The floor F of document 01.
 const F: &[u8] = &[
@@ -88,6 +88,51 @@ const PINWHEEL: &[u8] = &[
     2, 0, 10, 0, 0, 7, 1, 8, 2, 5, 2, 3, 3, // 6
     2, 0, 10, 0, 0, 1, 1, 4, 2, 8, 3, 6, 3, // 7
     2, 0, 8, 6, 0, 7, 1, 4, 2, 5, 3, // 8
+];
+
+/// The least sizes of rooms 4 to 7: 1 by 3, 3 by 2, 2 by 1, 1 by 2.
+const SIZES: &[u8] = &[7, 0, 8, 1, 3, 3, 2, 2, 1, 1, 2];
+
+/// F with these sizes.
+const SIZED_PLAN: &[u8] = &[
+    3, 0, 2, 7, 8, // the sheet
+    4, 0, 5, 0, 1, 7, 6, 8, // N
+    4, 0, 5, 1, 0, 0, 1, 8, // W
+    4, 0, 5, 2, 1, 0, 6, 1, // S
+    4, 0, 5, 3, 6, 0, 7, 8, // E
+    4, 0, 5, 4, 1, 4, 3, 7, // 4
+    4, 0, 5, 5, 3, 3, 6, 7, // 5
+    4, 0, 5, 6, 1, 1, 3, 4, // 6
+    4, 0, 5, 7, 3, 1, 6, 3, // 7
+];
+
+const SIZED_WALLS: &[u8] = &[
+    8, 0, 5, 0, 1, 1, 7, 2, // along W
+    8, 0, 5, 0, 3, 1, 7, 4, // between 6, 4 and 7, 5
+    8, 0, 5, 0, 6, 1, 7, 2, // along E
+    8, 0, 5, 1, 1, 1, 6, 2, // along S
+    8, 0, 5, 1, 3, 3, 6, 2, // between 7 and 5
+    8, 0, 5, 1, 4, 1, 3, 2, // between 6 and 4
+    8, 0, 5, 1, 7, 1, 6, 2, // along N
+];
+
+const SIZED_CUTS: &[u8] = &[
+    5, 0, 2, 0, 3, // upright at 3
+    5, 0, 2, 1, 4, 6, 0, 1, 6, 6, 0, 1, 4, // left of it, level at 4: 6 and 4
+    5, 0, 2, 1, 3, 6, 0, 1, 7, 6, 0, 1, 5, // right of it, level at 3: 7 and 5
+];
+
+/// F with these sizes, the contact of 5 and 6 turned.
+const SIZED_P9_PLAN: &[u8] = &[
+    3, 0, 2, 6, 7, // the sheet
+    4, 0, 5, 0, 1, 6, 5, 7, // N
+    4, 0, 5, 1, 0, 0, 1, 7, // W
+    4, 0, 5, 2, 1, 0, 5, 1, // S
+    4, 0, 5, 3, 5, 0, 6, 7, // E
+    4, 0, 5, 4, 1, 3, 2, 6, // 4
+    4, 0, 5, 5, 2, 3, 5, 6, // 5
+    4, 0, 5, 6, 1, 1, 3, 3, // 6
+    4, 0, 5, 7, 3, 1, 5, 3, // 7
 ];
 
 /// No rooms.
@@ -319,4 +364,116 @@ fn the_longest_wall_of_a_room_is_told() {
     assert_eq!(touch(&job, 4, 63), shared(3, 1));
     assert_eq!(touch(&job, 63, 4), shared(1, 1));
     assert_eq!(touch(&job, 63, 62), shared(2, 1));
+}
+
+/// A job with least sizes behind it, as width and height by room.
+fn sized(job: &[u8], sizes: &[[u8; 2]]) -> Vec<u8> {
+    let mut all = job.to_vec();
+    all.extend([7, 0, 2 * sizes.len() as u8]);
+    all.extend(sizes.iter().flatten());
+    all
+}
+
+#[test]
+fn rooms_have_their_least_sizes() {
+    let job = [F, SIZES].concat();
+    fills(MOST, SIZED_PLAN, |out| plan_into(&job, out));
+    fills(MOST, SIZED_WALLS, |out| walls_into(&job, out));
+    fills(MOST, SIZED_CUTS, |out| cuts_into(&job, out));
+    fills(MOST, STAR_6, |out| star_into(&job, 6, out));
+    assert_eq!(touch(&job, 4, 5), shared(3, 3));
+    assert_eq!(touch(&job, 5, 6), shared(1, 1));
+}
+
+/// The turned job keeps the sizes; turned again it is the job before.
+#[test]
+fn sizes_are_kept_by_a_turn() {
+    let (job, turned_job) = ([F, SIZES].concat(), [P9, SIZES].concat());
+    fills(JOB_MOST, &turned_job, |out| turned_into(&job, 5, 6, out));
+    fills(MOST, SIZED_P9_PLAN, |out| plan_into(&turned_job, out));
+    assert_eq!(turned(&turned_job, 6, 5), Ok(job.clone()));
+    refuses(job.len() - 1, 14, |out| turned_into(&job, 5, 6, out));
+    refuses(MOST, 12, |out| turned_into(&job, 4, 5, out));
+}
+
+#[test]
+fn sizes_are_refused() {
+    let with = |sizes: &[[u8; 2]]| sized(F, sizes);
+    for wrong in [[[1, 1]; 4], [[0, 2]; 4], [[2, 16]; 4]] {
+        refuses(MOST, 17, |out| plan_into(&with(&wrong), out));
+        refuses(MOST, 17, |out| turned_into(&with(&wrong), 5, 6, out));
+        assert_eq!(touch(&with(&wrong), 4, 5), Err(Refusal(17)));
+    }
+    refuses(MOST, 1, |out| plan_into(&with(&[[2, 2]; 3]), out));
+    refuses(MOST, 1, |out| walls_into(&with(&[[2, 2]; 5]), out));
+    refuses(MOST, 1, |out| cuts_into(&[F, SIZES, SIZES].concat(), out));
+    refuses(MOST, 17, |out| plan_into(&sized(P10, &[[1, 1]; 4]), out));
+    refuses(MOST, 9, |out| plan_into(&sized(P10, &[[2, 3]; 4]), out));
+    fills(MOST, STAR_6, |out| star_into(&with(&[[0, 16]; 4]), 6, out));
+    fills(MOST, &[], |out| star_into(&with(&[[2, 2]; 3]), 6, out));
+}
+
+/// Room 4 over the full width, and below it rooms 5 on, side by side, as wide as is said.
+fn wide(widths: &[u8]) -> Vec<u8> {
+    let last = 4 + widths.len() as u8;
+    let mut job = vec![1, 0, 1, 1 + widths.len() as u8];
+    job.extend([2, 0, 6 + 2 * widths.len() as u8, 0, 0, 1, 1]);
+    job.extend((5..=last).flat_map(|v| [v, 2]));
+    job.extend([3, 3]);
+    for v in 5..=last {
+        let left = if v == 5 { 1 } else { v - 1 };
+        let right = if v == last { 3 } else { v + 1 };
+        job.extend([2, 0, 8, 4, 0, left, 1, 2, 2, right, 3]);
+    }
+    let sizes = widths.iter().map(|&width| [width, 1]);
+    let sizes: Vec<[u8; 2]> = std::iter::once([1, 1]).chain(sizes).collect();
+    sized(&job, &sizes)
+}
+
+/// 250 cells are the most: 248 between W and E.
+#[test]
+fn the_widest_sheet_is_planned() {
+    let mut widths = [15; 17];
+    widths[16] = 8;
+    let job = wide(&widths);
+    assert_eq!(plan(&job).map(|plan| plan[3..5].to_vec()), Ok(vec![250, 4]));
+    assert_eq!(touch(&job, 4, 0), shared(0, 248));
+    assert_eq!(touch(&job, 0, 4), shared(2, 248));
+    assert_eq!(touch(&job, 21, 4), shared(0, 8));
+    widths[16] = 9;
+    refuses(MOST, 18, |out| plan_into(&wide(&widths), out));
+    refuses(MOST, 18, |out| walls_into(&wide(&widths), out));
+    refuses(0, 18, |out| cuts_into(&wide(&widths), out));
+    refuses(MOST, 18, |out| turned_into(&wide(&widths), 4, 5, out));
+    assert_eq!(touch(&wide(&widths), 4, 0), Err(Refusal(18)));
+}
+
+/// 15 rooms to the right of F turned, and the contact that would make it F again, which is wider.
+#[test]
+fn a_turn_to_a_sheet_too_large_is_refused() {
+    let mut job = vec![
+        1, 0, 1, 19, // nineteen rooms
+        2, 0, 8, 0, 0, 1, 1, 6, 2, 5, 3, // 4
+        2, 0, 10, 0, 0, 4, 1, 6, 2, 7, 2, 8, 3, // 5
+        2, 0, 10, 4, 0, 1, 1, 2, 2, 7, 3, 5, 0, // 6
+        2, 0, 8, 5, 0, 6, 1, 2, 2, 8, 3, // 7
+        2, 0, 10, 0, 0, 5, 1, 7, 1, 2, 2, 9, 3, // 8
+    ];
+    for v in 9..23 {
+        let right = if v == 22 { 3 } else { v + 1 };
+        job.extend([2, 0, 8, 0, 0, v - 1, 1, 2, 2, right, 3]);
+    }
+    let with = |row: u8| {
+        let mut sizes = vec![[1, 1], [15, 1], [15, 1], [1, 1]];
+        sizes.extend([[row, 1]; 15]);
+        sized(&job, &sizes)
+    };
+    assert_eq!(plan(&with(15)).map(|plan| plan[3]), Ok(243));
+    refuses(MOST, 18, |out| turned_into(&with(15), 5, 6, out));
+    assert_eq!(
+        turned(&with(14), 5, 6)
+            .and_then(|job| plan(&job))
+            .map(|plan| plan[3]),
+        Ok(242)
+    );
 }

@@ -4,16 +4,22 @@ use Rattle.bench.proofs.total.Statement.{statement}
 use Rattle.bench.proofs.total.Tie as tie
 
 abbrev Inv-loop : tie.InvT-loop
-Inv-loop stars rounds sum₀ left₀ sum left = Unit
+Inv-loop stars rounds sizes sum₀ left₀ sum left = Unit
 
 abbrev μ-loop : tie.MeasureT-loop
-μ-loop stars rounds sum₀ left₀ sum left = left
+μ-loop stars rounds sizes sum₀ left₀ sum left = left
+
+none-told-requires : tie.Need-none-told-requires Inv-loop μ-loop
+none-told-requires c κs = search needs
 
 loop-holds : tie.Need-loop-holds Inv-loop μ-loop
 loop-holds c = search needs
 
 wide-requires : tie.Need-wide-requires Inv-loop μ-loop
 wide-requires c κs = search needs
+
+wide-requires-2 : tie.Need-wide-requires-2 Inv-loop μ-loop
+wide-requires-2 c κs = search needs
 
 walls-of-requires : tie.Need-walls-of-requires Inv-loop μ-loop
 walls-of-requires c κs = search needs
@@ -48,8 +54,10 @@ total-spec =
     (tie.spec
     Inv-loop
     μ-loop
+    none-told-requires
     loop-holds
     wide-requires
+    wide-requires-2
     walls-of-requires
     weight-requires
     wrapping-add-u64-requires

@@ -18,9 +18,9 @@ fewer-requires c κs = search needs
 run-rows-requires : tie.Need-run-rows-requires
 run-rows-requires c κs = (
   search needs,
-  few-walls _ _ _ (c .before .before .before .before .before .before .before .register-of .ensures) _ _ _ (c .before .before .before .before .before .number2 .ensures .0) (c .before .before .before .before .before .before .number .ensures .0) (c .before .before .before .before .fewer .ensures),
-  ups-rising _ _ _ (c .before .before .before .before .before .before .before .register-of .ensures) _ _ _ (c .before .before .before .before .before .number2 .ensures .0) (c .before .before .before .before .before .before .number .ensures .0) (c .before .before .before .before .fewer .ensures),
-  levels-rising _ _ _ (c .before .before .before .before .before .before .before .register-of .ensures) _ _ _ (c .before .before .before .before .before .number2 .ensures .0) (c .before .before .before .before .before .before .number .ensures .0) (c .before .before .before .before .fewer .ensures),
+  few-walls _ _ _ _ _ (c .before .before .before .before .before .before .before .register-of .ensures) _ _ _ (c .before .before .before .before .before .number2 .ensures .0) (c .before .before .before .before .before .before .number .ensures .0) (c .before .before .before .before .fewer .ensures),
+  ups-rising _ _ _ _ _ (c .before .before .before .before .before .before .before .register-of .ensures) _ _ _ (c .before .before .before .before .before .number2 .ensures .0) (c .before .before .before .before .before .before .number .ensures .0) (c .before .before .before .before .fewer .ensures),
+  levels-rising _ _ _ _ _ (c .before .before .before .before .before .before .before .register-of .ensures) _ _ _ (c .before .before .before .before .before .number2 .ensures .0) (c .before .before .before .before .before .before .number .ensures .0) (c .before .before .before .before .fewer .ensures),
   search needs,
 )
 

@@ -1,6 +1,7 @@
 -- What a sound board writes: bytes, and how many. Assumes nothing.
 use Prim.Native.Nat.{ℕ, _+_, _*_, _≤_, _<_}
 use mathlib.Core.Path.{_≡_, refl, ap}
+use mathlib.Core.Logic.{inl, inr}
 use mathlib.Core.List.{List, [], _∷_, List·Memᴰ, List·Memᴰ·head, List·Memᴰ·tail}
 use lib.ListN.{length, getD, length-append}
 use lib.Dec.{leb}
@@ -10,10 +11,12 @@ use Rattle.floor.specs.Lists.{sum}
 use Rattle.floor.specs.Lists.Laws.{and-parts, getD-mem}
 use Rattle.floor.specs.Fields.{Bytes, writeField}
 use Rattle.floor.specs.Fields.Laws.{bytes-append, bytes-field, length-field}
-use Rattle.floor.specs.Jobs.{Entry, Star, Job, Vertex, pairsIn, test2, test3, writeJob}
-use Rattle.floor.specs.Jobs.Written.{length-writeJob, bytes-job}
-use Rattle.floor.specs.Plans.{Rect, Plan, nowhere, rectOf, rectBytes, writeRects, writePlan}
-use Rattle.floor.specs.Plans.Held.{held-bound}
+use Rattle.floor.specs.Jobs.{Entry, Star, Job, Vertex, pairsIn, test2, test3, writeJob, Sizes, SizedJob, writeSizes, writeSized}
+use Rattle.floor.specs.Jobs.Facts.{Fair, sizes-fair}
+use Rattle.floor.specs.Jobs.Written.{bytes-job, Counts, length-writeSized, bytes-sizes}
+use Rattle.floor.specs.Walls.{upright, level, topOf}
+use Rattle.floor.specs.Walls.Rules.{top-sized}
+use Rattle.floor.specs.Plans.{Rect, Plan, nowhere, rectOf, rectBytes, writeRects, writePlan, test18}
 use Rattle.floor.specs.Floor.{Inside, GoodPlan}
 use Rattle.floor.specs.Floor.Read.{entry-ok}
 use Rattle.floor.specs.Calls.Sound.{Sound, sound-good}
@@ -49,33 +52,47 @@ rects-bytes (r ∷ rs) h =
     bytes-append (writeField 4 (rectBytes r)) (writeRects rs) (bytes-field 4 (rectBytes r) (omega arith) (omega arith) (h r (List·Memᴰ·head refl)))
     (rects-bytes rs (λ q i. h q (List·Memᴰ·tail i)))
 
-module _ (j : Job) (p : Plan) (s : Sound j p) where
-  -- the limits that were tested, and the bound of the sheet
-  pub limits : (length j ≤ 60) × (pairsIn j ≤ 360) × (p .width ≤ length j + 2) × (p .height ≤ length j + 2)
-  unfolding test2 test3
+-- no more sizes than rooms
+counts-few : (n m : ℕ) (z : Sizes) → Counts n z → n ≤ m → length z ≤ m
+counts-few n m z (inl e) h = rw e (omega arith)
+counts-few n m z (inr e) h = omega arith
+
+module _ (o : SizedJob) (p : Plan) (s : Sound o p) where
+  -- the limits that were tested
+  pub limits : (length (o .stars) ≤ 60) × (pairsIn (o .stars) ≤ 360) × (p .width ≤ 250) × (p .height ≤ 250)
+  unfolding test2 test3 test18
   limits = (
-    leb-true (length j) 60 (and-parts (leb 1 (length j)) _ (s .pass2) .1),
-    leb-true (pairsIn j) 360 (s .pass3),
-    held-bound j (s .passes) p (s .is-drawn) .0,
-    held-bound j (s .passes) p (s .is-drawn) .1,
+    leb-true (length (o .stars)) 60 (and-parts (leb 1 (length (o .stars))) _ (s .pass2) .1),
+    leb-true (pairsIn (o .stars)) 360 (s .pass3),
+    leb-true (p .width) 250 (and-parts _ _ (s .is-drawn .sheet) .0),
+    leb-true (p .height) 250 (and-parts (leb (p .width) 250) _ (s .is-drawn .sheet) .1),
   )
 
   -- the held plan is good for its job
-  gp : GoodPlan j p
-  gp = sound-good j p s
+  gp : GoodPlan (o .stars) p
+  gp = sound-good o p s
+
+  -- the stars, written, are bytes
+  stars-bytes : Bytes (writeJob (o .stars))
+  stars-bytes = bytes-job (o .stars) (omega (arith, limits .0)) each
+    where
+      each : (r : Star) → List·Memᴰ r (o .stars) → (length r < 32768) × ((e : Entry) → List·Memᴰ e r → (e .to < 256) × (e .kind < 256))
+      each r m = let (i, l, q) = getD-mem (o .stars) r [] m in (omega (arith, star-pairs (o .stars) r m, limits .1), λ e x. small i l e (rw q x))
+        where
+          small : (i : ℕ) → i < length (o .stars) → (e : Entry) → List·Memᴰ e (getD (o .stars) i []) → (e .to < 256) × (e .kind < 256)
+          small i l e x =
+              (omega (arith, entry-ok (o .stars) (s .passes) i l e x .below, limits .0), omega (arith, entry-ok (o .stars) (s .passes) i l e x .small))
 
   -- A WRITTEN JOB IS BYTES
-  pub job-bytes : Bytes (writeJob j)
-  job-bytes = bytes-job j (omega (arith, limits .0)) each
-    where
-      each : (r : Star) → List·Memᴰ r j → (length r < 32768) × ((e : Entry) → List·Memᴰ e r → (e .to < 256) × (e .kind < 256))
-      each r m = let (i, l, q) = getD-mem j r [] m in (omega (arith, star-pairs j r m, limits .1), λ e x. small i l e (rw q x))
-        where
-          small : (i : ℕ) → i < length j → (e : Entry) → List·Memᴰ e (getD j i []) → (e .to < 256) × (e .kind < 256)
-          small i l e x = (omega (arith, entry-ok j (s .passes) i l e x .below, limits .0), omega (arith, entry-ok j (s .passes) i l e x .small))
+  pub job-bytes : Bytes (writeSized o)
+  unfolding writeSized
+  job-bytes =
+      bytes-append (writeJob (o .stars)) (writeSizes (o .sizes)) stars-bytes
+      (bytes-sizes (o .sizes) (omega (arith, counts-few (length (o .stars)) 60 (o .sizes) (s .counts) (limits .0)))
+      (λ r m. let f : Fair r = sizes-fair (o .sizes) (s .pass17) r m in (omega (arith, f .most-width), omega (arith, f .most-height))))
 
   -- the five numbers of each vertex's rectangle are bytes
-  rect-bytes : (v : ℕ) → Vertex j v → Bytes (rectBytes (rectOf p v))
+  rect-bytes : (v : ℕ) → Vertex (o .stars) v → Bytes (rectBytes (rectOf p v))
   unfolding rectBytes
   rect-bytes v h =
       let i : Inside p (rectOf p v) = gp .inside v h in (
@@ -101,13 +118,19 @@ module _ (j : Job) (p : Plan) (s : Sound j p) where
       each r m = let (v, l, q) = getD-mem (p .rects) r nowhere m in rw q at (rect-bytes v (omega (arith, gp .floor .complete .count)))
 
   -- AND HOW LONG THEY ARE
-  pub plan-length : length (writePlan p) ≡ 37 + 8 * length j
+  pub plan-length : length (writePlan p) ≡ 37 + 8 * length (o .stars)
   plan-length = omega (arith, length-writePlan p, gp .floor .complete .count)
 
-  -- a written job has at most 904 bytes
-  pub job-length-most : length (writeJob j) ≤ 904
-  job-length-most = omega (arith, length-writeJob j, limits .0, limits .1)
+  -- a written job has at most 1,027 bytes
+  pub job-length-most : length (writeSized o) ≤ 1027
+  job-length-most = omega (arith, length-writeSized o (s .counts), limits .0, limits .1)
 
   -- a written plan has at most 517 bytes
   pub plan-length-most : length (writePlan p) ≤ 517
   plan-length-most = omega (arith, plan-length, limits .0)
+
+  -- NO WALL NUMBER passes 901: sixty rooms of fifteen cells
+  pub number-most : (topOf upright (o .stars) (o .sizes) ≤ 901) × (topOf level (o .stars) (o .sizes) ≤ 901)
+  number-most =
+      let (x, y) = top-sized (o .stars) (o .sizes) (s .pass17) in
+      (omega (arith, x, limits .0), omega (arith, y, limits .0))

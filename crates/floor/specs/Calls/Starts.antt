@@ -1,6 +1,6 @@
 -- Jobs that differ only in their starts: every test, the numbers, the plan and every turn answer them alike. Assumes nothing.
 use Prim.Native.Nat.{ℕ, zero, suc, _-_}
-use mathlib.Core.Path.{_≡_, refl, sym, ap, _∙_, fun-ext}
+use mathlib.Core.Path.{_≡_, refl, sym, ap, _∙_, fun-ext, subst}
 use mathlib.Core.Bool.{Bool, true, false, cond, not, _&&_, _||_}
 use mathlib.Core.Option.{Option, none, some}
 use mathlib.Core.List.{List, [], _∷_}
@@ -11,16 +11,17 @@ use Rattle.floor.specs.Lists.{all, pairwise, sum}
 use Rattle.floor.specs.Lists.Laws.{same-test, and-parts}
 use Rattle.floor.specs.Jobs.{Entry, Star, changes, Restarted, Job, OnlyStarts, no-room, one-more, opposite, rooms, isVertex, isRoom, starOf, names}
 use Rattle.floor.specs.Jobs.{SixPassed, lists, kindOf, listOf, pairsIn, goesOn, starOk, test3, entryOk, test4, test5, test6, Reading, fails, reads}
-use Rattle.floor.specs.Jobs.{readJob, passing, firstSix, writeJob}
+use Rattle.floor.specs.Jobs.{readJob, passing, firstSix, writeJob, Sizes, SizedJob, sizedJob, SameButStarts, same-sizes, sizesPass, test17, withSizes}
+use Rattle.floor.specs.Jobs.{writeSizes, writeSized}
 use Rattle.floor.specs.Jobs.Round.{restart-none, restart-back, restart-mem, restart-count, restart-all, restart-any, links-all, links-count}
 use Rattle.floor.specs.Jobs.Stars.{once-of, of-once, kindOf-mem}
-use Rattle.floor.specs.Jobs.Facts.{Passes, is-room, passes-of, six-passed, labelling-passes}
+use Rattle.floor.specs.Jobs.Facts.{Passes, is-room, passes-of, six-passed, labelling-passes, sizes-passed}
 use Rattle.floor.specs.Jobs.Written.{length-writeJob}
 use Rattle.floor.specs.Walls.{Axis, upright, level, Respects, rules, at, jobNumbers}
 use Rattle.floor.specs.Walls.Walk.{numbers-respects, numbers-positive}
 use Rattle.floor.specs.Walls.Rules.{obeys-respects, respects-obeys, numbered, numbers-are, numbers-least, to-vertex}
 use Rattle.floor.specs.Plans.{Plan, planOf, joined, sharesJoined, inOrder, roundInOrder, drawable, Answer, refused, held, past, tested, planned, Alike}
-use Rattle.floor.specs.Plans.{one-plan, one-refusal, drawn, drawRead, writePlan}
+use Rattle.floor.specs.Plans.{one-plan, one-refusal, drawn, drawRead, writePlan, test18}
 use Rattle.floor.specs.Cuts.{Tree, writeTree, planTree}
 use Rattle.floor.specs.Registers.{register, writeRegister}
 use Rattle.floor.specs.Turns.{turned, turningAt, turningFrom, inContact, turning, turn, turnedBy}
@@ -28,6 +29,7 @@ use Rattle.floor.specs.Turns.Swing.{last-restarted, restart-turned, leng
 use Rattle.floor.specs.Turns.Restore.{turnable, turned-keeps}
 use Rattle.floor.specs.Calls.{load, Board, empty, holding, Call, loads, turns, rectangle, writesJob, writesPlan, Reply, wrote, refuse, BoardsAlike}
 use Rattle.floor.specs.Calls.{StepsAlike, both-empty, both-hold, after, asks, writes, step, run, touches, writesRegister, slices, writesCuts, writesTree}
+use Rattle.floor.specs.Calls.{Step}
 use Rattle.floor.specs.Calls.Sound.{Sound, SoundBoard, sound-good, step-sound}
 use Rattle.floor.specs.Calls.Exact.{kind-found}
 
@@ -147,10 +149,10 @@ module _ {j i : Job} (o : OnlyStarts j i) where
           ∙ ap (λ (p : Entry → Bool). all p (starOf i u)) (fun-ext (λ e. ap (λ b. not (leb 4 (e .to)) || b) (lists-same (e .to) u (opposite (e .kind)))))
 
   -- THE NUMBERS
-  respects-same : (a : Axis) (g : ℕ → ℕ) → Respects (rules a j) g → Respects (rules a i) g
-  respects-same a g r =
-      let t = respects-obeys a g j r in
-      obeys-respects a g i (record {
+  respects-same : (a : Axis) (z : Sizes) (g : ℕ → ℕ) → Respects (rules a j z) g → Respects (rules a i z) g
+  respects-same a z g r =
+      let t = respects-obeys a g j z r in
+      obeys-respects a g i z (record {
         own = λ n h. t .own n (omega (arith, starts-length o));
         each = λ n h e m. t .each n (omega (arith, starts-length o)) e (restart-mem (restart-back (starts-at o n)) m);
       })
@@ -176,28 +178,28 @@ module _ {j i : Job} (o : OnlyStarts j i) where
   plan-same f g = rw rooms-same
 
 -- the numbers of both
-numbers-same : {j i : Job} → OnlyStarts j i → Passes j → Passes i → (a : Axis) (f : List ℕ) → jobNumbers a j ≡ some f
-    → (g : List ℕ) × (jobNumbers a i ≡ some g) × (at f ≡ at g)
-numbers-same {j} {i} o ok ok′ a f e =
-    let nf = numbers-are a j (to-vertex j ok) f e in
-    let (g, q) = numbered a i (to-vertex i ok′) (at f) (respects-same o a (at f) (numbers-respects (rules a j) (at f) nf)) in
-    let ng = numbers-are a i (to-vertex i ok′) g q in (
+numbers-same : {j i : Job} → OnlyStarts j i → Passes j → Passes i → (a : Axis) (z : Sizes) (f : List ℕ) → jobNumbers a j z ≡ some f
+    → (g : List ℕ) × (jobNumbers a i z ≡ some g) × (at f ≡ at g)
+numbers-same {j} {i} o ok ok′ a z f e =
+    let nf = numbers-are a j z (to-vertex j ok) f e in
+    let (g, q) = numbered a i z (to-vertex i ok′) (at f) (respects-same o a z (at f) (numbers-respects (rules a j z) (at f) nf)) in
+    let ng = numbers-are a i z (to-vertex i ok′) g q in (
       g,
       q,
       fun-ext (λ s. omega (
         arith,
-        numbers-least a j (at f) (at g) nf (numbers-positive (rules a i) (at g) ng)
-            (respects-same (starts-back o) a (at g) (numbers-respects (rules a i) (at g) ng)) s,
-        numbers-least a i (at g) (at f) ng (numbers-positive (rules a j) (at f) nf)
-            (respects-same o a (at f) (numbers-respects (rules a j) (at f) nf)) s,
+        numbers-least a j z (at f) (at g) nf (numbers-positive (rules a i z) (at g) ng)
+            (respects-same (starts-back o) a z (at g) (numbers-respects (rules a i z) (at g) ng)) s,
+        numbers-least a i z (at g) (at f) ng (numbers-positive (rules a j z) (at f) nf)
+            (respects-same o a z (at f) (numbers-respects (rules a j z) (at f) nf)) s,
       )),
     )
 
--- TESTS 7 AND 9: numbered and drawn alike
-pub drawn-alike : {j i : Job} → OnlyStarts j i → Passes j → Passes i → Alike (drawn j) (drawn i)
+-- TESTS 7, 18 AND 9: numbered and drawn alike
+pub drawn-alike : {o i : SizedJob} → SameButStarts o i → Passes (o .stars) → Passes (i .stars) → Alike (drawn o) (drawn i)
 unfolding drawn
-drawn-alike {j} {i} o ok ok′ =
-    go (jobNumbers upright j) refl (jobNumbers level j) refl (jobNumbers upright i) refl (jobNumbers level i) refl
+drawn-alike (same-sizes {j} {i} {z} o) ok ok′ =
+    go (jobNumbers upright j z) refl (jobNumbers level j z) refl (jobNumbers upright i z) refl (jobNumbers level i z) refl
   where
     no-none : {X : Type 0} {f : List ℕ} → none ≡ some f → X
     no-none e = let z : _≡_ {A = ℕ} 0 1 = cc in absurd (omega arith)
@@ -205,29 +207,35 @@ drawn-alike {j} {i} o ok ok′ =
     same-list : {f g : List ℕ} → some f ≡ some g → f ≡ g
     same-list e = cc
 
-    gone : (a : Axis) → jobNumbers a j ≡ none → (g : List ℕ) → jobNumbers a i ≡ some g → ⊥
-    gone a e g q = let (f, x, y) = numbers-same (starts-back o) ok′ ok a g q in no-none (sym e ∙ x)
+    gone : (a : Axis) → jobNumbers a j z ≡ none → (g : List ℕ) → jobNumbers a i z ≡ some g → ⊥
+    gone a e g q = let (f, x, y) = numbers-same (starts-back o) ok′ ok a z g q in no-none (sym e ∙ x)
 
-    there : (a : Axis) (f : List ℕ) → jobNumbers a j ≡ some f → jobNumbers a i ≡ none → ⊥
-    there a f e q = let (g, x, y) = numbers-same o ok ok′ a f e in no-none (sym q ∙ x)
+    there : (a : Axis) (f : List ℕ) → jobNumbers a j z ≡ some f → jobNumbers a i z ≡ none → ⊥
+    there a f e q = let (g, x, y) = numbers-same o ok ok′ a z f e in no-none (sym q ∙ x)
 
-    both : (a : Axis) (f g : List ℕ) → jobNumbers a j ≡ some f → jobNumbers a i ≡ some g → at f ≡ at g
-    both a f g e q = let (h, x, y) = numbers-same o ok ok′ a f e in y ∙ ap at (same-list (sym x ∙ q))
+    both : (a : Axis) (f g : List ℕ) → jobNumbers a j z ≡ some f → jobNumbers a i z ≡ some g → at f ≡ at g
+    both a f g e q = let (h, x, y) = numbers-same o ok ok′ a z f e in y ∙ ap at (same-list (sym x ∙ q))
 
-    one-test : (p : Plan) → Alike (tested j p) (tested i p)
-    one-test p = unfold tested past in rw (drawable-same o p) (two (drawable i p))
+    one-test : (p : Plan) → Alike (tested (sizedJob j z) p) (tested (sizedJob i z) p)
+    one-test p = unfold tested in sheet (test18 p)
       where
-        two : (b : Bool) → Alike (past b 9 (λ _. held j p)) (past b 9 (λ _. held i p))
-        two true = unfold past in one-plan o
+        two : (b : Bool) → Alike (past b 9 (λ _. held (sizedJob j z) p)) (past b 9 (λ _. held (sizedJob i z) p))
+        two true = unfold past in one-plan (same-sizes o)
         two false = unfold past in one-refusal
 
-    no-numbers : (h : Job) (y : Option (List ℕ)) → planned h none y ≡ refused 7
+        sheet : (b : Bool) → Alike (past b 18 (λ _. past (drawable j p) 9 (λ _. held (sizedJob j z) p)))
+            (past b 18 (λ _. past (drawable i p) 9 (λ _. held (sizedJob i z) p)))
+        sheet true = unfold past in rw (drawable-same o p) (two (drawable i p))
+        sheet false = unfold past in one-refusal
+
+    no-numbers : (h : SizedJob) (y : Option (List ℕ)) → planned h none y ≡ refused 7
     no-numbers h none = unfold planned in refl
     no-numbers h (some g) = unfold planned in refl
 
-    go : (x : Option (List ℕ)) → jobNumbers upright j ≡ x → (y : Option (List ℕ)) → jobNumbers level j ≡ y
-        → (z : Option (List ℕ)) → jobNumbers upright i ≡ z → (w : Option (List ℕ)) → jobNumbers level i ≡ w → Alike (planned j x y) (planned i z w)
-    go none a y b none c w d = rw (no-numbers j y, no-numbers i w) one-refusal
+    go : (x : Option (List ℕ)) → jobNumbers upright j z ≡ x → (y : Option (List ℕ)) → jobNumbers level j z ≡ y
+        → (v : Option (List ℕ)) → jobNumbers upright i z ≡ v → (w : Option (List ℕ)) → jobNumbers level i z ≡ w
+        → Alike (planned (sizedJob j z) x y) (planned (sizedJob i z) v w)
+    go none a y b none c w d = rw (no-numbers (sizedJob j z) y, no-numbers (sizedJob i z) w) one-refusal
     go none a y b (some g) c w d = absurd (gone upright a g c)
     go (some f) a y b none c w d = absurd (there upright f a c)
     go (some f) a none b (some g) c none d = unfold planned in one-refusal
@@ -237,42 +245,49 @@ drawn-alike {j} {i} o ok ok′ =
         unfold planned in rw (both upright f g a c, both level e h b d, plan-same o (at g) (at h)) (one-test (planOf i (at g) (at h)))
 
 -- A JOB READ, OR TURNED, alike: the same number, or jobs that differ only in their starts
-data ReadAlike : Reading → Reading → Type 0 where
-  one-number : {k : ℕ} → ReadAlike (fails k) (fails k)
-  one-job : {j i : Job} → OnlyStarts j i → ReadAlike (reads j) (reads i)
+data ReadAlike {A : Type 0} (R : A → A → Type 0) : Reading A → Reading A → Type 0 where
+  one-number : {k : ℕ} → ReadAlike R (fails k) (fails k)
+  one-job : {j i : A} → R j i → ReadAlike R (reads j) (reads i)
 
 -- a test that answers both alike, and what follows it alike where it is passed: what comes of them is alike
-passing-alike : (a b : Bool) (k : ℕ) (r q : Reading) → a ≡ b → (b ≡ true → ReadAlike r q) → ReadAlike (passing a k r) (passing b k q)
+passing-alike : {A : Type 0} {R : A → A → Type 0} (a b : Bool) (k : ℕ) (r q : Reading A) → a ≡ b → (b ≡ true → ReadAlike R r q)
+    → ReadAlike R (passing a k r) (passing b k q)
 unfolding passing
 passing-alike a true k r q e h = rw e (h refl)
 passing-alike a false k r q e h = rw e one-number
 
 -- what was read alike is drawn alike, where the jobs read are
-draw-alike : {r q : Reading} → ReadAlike r q → ((j i : Job) → r ≡ reads j → q ≡ reads i → OnlyStarts j i → Alike (drawn j) (drawn i))
-    → Alike (drawRead r) (drawRead q)
+draw-alike : {r q : Reading SizedJob} → ReadAlike SameButStarts r q
+    → ((o i : SizedJob) → r ≡ reads o → q ≡ reads i → SameButStarts o i → Alike (drawn o) (drawn i)) → Alike (drawRead r) (drawRead q)
 unfolding drawRead
 draw-alike one-number h = one-refusal
-draw-alike (one-job {j} {i} o) h = h j i refl refl o
+draw-alike (one-job {j} {i} x) h = h j i refl refl x
+
+-- past tests 3 to 6,
+six-alike : {o i : SizedJob} → SameButStarts o i → ReadAlike SameButStarts (firstSix (reads o)) (firstSix (reads i))
+unfolding firstSix
+six-alike (same-sizes {j} {i} {z} o) =
+    passing-alike (test3 j) (test3 i) 3 _ _ (test3-same o)
+    (λ _. passing-alike (test4 j) (test4 i) 4 _ _ (test4-same o)
+    (λ _. passing-alike (test5 j) (test5 i) 5 _ _ (test5-same o)
+    (λ _. passing-alike (test6 j) (test6 i) 6 _ _ (test6-same o) (λ _. one-job (same-sizes o)))))
+
+-- and past 17
+sizes-alike : {r q : Reading SizedJob} → ReadAlike SameButStarts r q → ReadAlike SameButStarts (sizesPass r) (sizesPass q)
+unfolding sizesPass
+sizes-alike one-number = one-number
+sizes-alike (one-job (same-sizes {j} {i} {z} o)) = passing-alike (test17 z) (test17 z) 17 _ _ refl (λ _. one-job (same-sizes o))
 
 -- LOADED ALIKE
-pub load-alike : (bs cs : List ℕ) (j i : Job) → readJob bs ≡ reads j → readJob cs ≡ reads i → OnlyStarts j i → Alike (load bs) (load cs)
-unfolding load firstSix
-load-alike bs cs j i e q o = rw (e, q) (draw-alike six (λ j i x y o. drawn-alike o (ok j x) (ok′ i y)))
+pub load-alike : (bs cs : List ℕ) (o i : SizedJob) → readJob bs ≡ reads o → readJob cs ≡ reads i → SameButStarts o i → Alike (load bs) (load cs)
+unfolding load
+load-alike bs cs o i e q x = rw (e, q) (draw-alike (sizes-alike (six-alike x)) (λ h g y w z. drawn-alike z (passes (reads o) h y) (passes (reads i) g w)))
   where
-    six : ReadAlike (firstSix (reads j)) (firstSix (reads i))
-    six =
-        passing-alike (test3 j) (test3 i) 3 _ _ (test3-same o)
-        (λ _. passing-alike (test4 j) (test4 i) 4 _ _ (test4-same o)
-        (λ _. passing-alike (test5 j) (test5 i) 5 _ _ (test5-same o) (λ _. passing-alike (test6 j) (test6 i) 6 _ _ (test6-same o) (λ _. one-job o))))
-
-    passes : (r : Reading) (h : Job) → firstSix r ≡ reads h → Passes h
-    passes r h x = let s : SixPassed r h = six-passed r h x in passes-of h (s .pass4) (s .pass5) (s .pass6)
-
-    ok : (h : Job) → firstSix (reads j) ≡ reads h → Passes h
-    ok = passes (reads j)
-
-    ok′ : (h : Job) → firstSix (reads i) ≡ reads h → Passes h
-    ok′ = passes (reads i)
+    passes : (r : Reading SizedJob) (h : SizedJob) → sizesPass (firstSix r) ≡ reads h → Passes (h .stars)
+    passes r h x =
+        let (y, t) = sizes-passed (firstSix r) h x in
+        let s : SixPassed r h = six-passed r h y in
+        passes-of (h .stars) (s .pass4) (s .pass5) (s .pass6)
 
 -- TURNED ALIKE
 starts-set : {j i : Job} → OnlyStarts j i → (n : ℕ) {s t : Star} → Restarted s t → OnlyStarts (set j n s) (set i n t)
@@ -293,13 +308,13 @@ module _ {j i : Job} (o : OnlyStarts j i) where
       length-listOf (starOf j u) k ∙ restart-count (starts-star o u) (λ (e : Entry). eqb (e .kind) k) ∙ sym (length-listOf (starOf i u) k)
 
   -- both fail by 12, or both give turned jobs, and these differ only in their starts
-  at-alike : (u v k : ℕ) → ReadAlike (turningAt j u v k) (turningAt i u v k)
+  at-alike : (u v k : ℕ) → ReadAlike OnlyStarts (turningAt j u v k) (turningAt i u v k)
   unfolding turningAt
   at-alike u v k =
       passing-alike _ _ 12 _ _ (rw (many-same u k, many-same v (opposite k))) (λ _. one-job (turned-starts u v k))
 
   -- the same, from whichever of the two rooms the contact is read
-  from-alike : (b : Bool) (u v k : ℕ) → ReadAlike (turningFrom b j u v k) (turningFrom b i u v k)
+  from-alike : (b : Bool) (u v k : ℕ) → ReadAlike OnlyStarts (turningFrom b j u v k) (turningFrom b i u v k)
   unfolding turningFrom
   from-alike true u v k = at-alike u v k
   from-alike false u v k = at-alike v u (opposite k)
@@ -319,12 +334,12 @@ module _ {j i : Job} (o : OnlyStarts j i) where
   written-same = omega (arith, length-writeJob j, length-writeJob i, starts-length o, pairs-same o)
 
   -- where the other passes tests 4 to 6, turning comes to the same: 11, 12, or turned jobs that differ only in their starts
-  turning-alike : Passes i → (u v : ℕ) → ReadAlike (turning j u v) (turning i u v)
+  turning-alike : Passes i → (u v : ℕ) → ReadAlike OnlyStarts (turning j u v) (turning i u v)
   unfolding turning inContact
   turning-alike ok u v = passing-alike _ _ 11 _ _ (rw (room-same u, room-same v, names-same o u v)) go
     where
       go : (isRoom i u && isRoom i v && names (starOf i u) v) ≡ true
-          → ReadAlike (turningFrom (eqb (kindOf (starOf j u) v) 0 || eqb (kindOf (starOf j u) v) 3) j u v (kindOf (starOf j u) v))
+          → ReadAlike OnlyStarts (turningFrom (eqb (kindOf (starOf j u) v) 0 || eqb (kindOf (starOf j u) v) 3) j u v (kindOf (starOf j u) v))
           (turningFrom (eqb (kindOf (starOf i u) v) 0 || eqb (kindOf (starOf i u) v) 3) i u v (kindOf (starOf i u) v))
       go c =
           let (xy, n) = and-parts (isRoom i u && isRoom i v) (names (starOf i u) v) c in
@@ -333,26 +348,54 @@ module _ {j i : Job} (o : OnlyStarts j i) where
           (restart-mem (starts-star o u) (kindOf-mem (starOf j u) v (names-same o u v ∙ n))) in
           rw e (from-alike (eqb (kindOf (starOf j u) v) 0 || eqb (kindOf (starOf j u) v) 3) u v (kindOf (starOf j u) v))
 
+-- with one and the same sizes, stars read alike are jobs read alike
+sized-alike : {r q : Reading Job} (z : Sizes) → ReadAlike OnlyStarts r q → ReadAlike SameButStarts (withSizes z r) (withSizes z q)
+unfolding withSizes
+sized-alike z one-number = one-number
+sized-alike z (one-job o) = one-job (same-sizes o)
+
 -- such jobs, each held with a plan, answer a turn alike: by the same refusal, or with equal plans
-pub turn-alike : {j i : Job} → OnlyStarts j i → (p q : Plan) → Sound j p → Sound i q → (u v : ℕ) → Alike (turn j u v) (turn i u v)
+pub turn-alike : {o i : SizedJob} → SameButStarts o i → (p q : Plan) → Sound o p → Sound i q → (u v : ℕ) → Alike (turn o u v) (turn i u v)
 unfolding turn
-turn-alike {j} {i} o p q s t u v =
-    draw-alike (turning-alike o (t .passes) u v) (λ h g x y r. drawn-alike r (kept j p s h x) (kept i q t g y))
+turn-alike (same-sizes {j} {i} {z} o) p q s t u v =
+    draw-alike (sized-alike z (turning-alike o (t .passes) u v)) (λ h g x y r. drawn-alike r (kept (sizedJob j z) p s h x) (kept (sizedJob i z) q t g y))
   where
-    kept : (j : Job) (p : Plan) → Sound j p → (h : Job) → turning j u v ≡ reads h → Passes h
-    kept j p s h x =
-        let (t, e) = turnable j u v (s .passes) h x in
-        rw e at (labelling-passes (turnedBy t) (turned-keeps j (s .passes) p (sound-good j p s) t .labelling))
+    kept : (o : SizedJob) (p : Plan) → Sound o p → (h : SizedJob) → withSizes (o .sizes) (turning (o .stars) u v) ≡ reads h → Passes (h .stars)
+    kept o p s h x = go (turning (o .stars) u v) refl x
+      where
+        same-job : {a b : SizedJob} → reads a ≡ reads b → a ≡ b
+        same-job e = cc
+
+        go : (r : Reading Job) → turning (o .stars) u v ≡ r → withSizes (o .sizes) r ≡ reads h → Passes (h .stars)
+        go (fails k) e x = unfold withSizes in let z : _≡_ {A = ℕ} 0 1 = cc in absurd (omega arith)
+        go (reads l) e x = unfold withSizes in
+            let (t, f) = turnable (o .stars) u v (s .passes) l e in
+            subst (λ (l : Job). Passes l) (f ∙ ap (λ (h : SizedJob). h .stars) (same-job x))
+            (labelling-passes (turnedBy t) (turned-keeps (o .stars) (s .passes) p (sound-good o p s) t .labelling))
 
 -- a job differs from itself in no start
 starts-none : (j : Job) → OnlyStarts j j
 starts-none [] = no-room
 starts-none (s ∷ j) = one-more (restart-none s) (starts-none j)
 
+-- nor does a job with its sizes
+itself : (o : SizedJob) → SameButStarts o o
+itself o = same-sizes (starts-none (o .stars))
+
+-- the stars of such jobs differ only in their starts
+stars-of : {o i : SizedJob} → SameButStarts o i → OnlyStarts (o .stars) (i .stars)
+stars-of (same-sizes o) = o
+
+-- and their writings are equally long
+written-alike : {o i : SizedJob} → SameButStarts o i → length (writeSized o) ≡ length (writeSized i)
+unfolding writeSized
+written-alike (same-sizes {j} {i} {z} o) =
+    omega (arith, length-append (writeJob j) (writeSizes z), length-append (writeJob i) (writeSizes z), written-same o)
+
 -- every answer is the same as itself
 answer-itself : (r : Answer) → Alike r r
 answer-itself (refused k) = one-refusal
-answer-itself (held j p) = one-plan (starts-none j)
+answer-itself (held o p) = one-plan (itself o)
 
 -- boards alike, given the same answer, give the same reply and are alike again
 pub after-alike : (b c : Board) {r q : Answer} → BoardsAlike b c → Alike r q → StepsAlike (after b r) (after c q)
@@ -385,13 +428,13 @@ tree-alike b c (some t) buf h = writes-alike b c (writeTree t) (writeTree t) buf
 -- every board is like itself
 boards-itself : (b : Board) → BoardsAlike b b
 boards-itself empty = both-empty
-boards-itself (holding j p) = both-hold (starts-none j)
+boards-itself (holding o p) = both-hold (itself o)
 
 -- such jobs loaded into one board
-pub loaded-alike : (b : Board) (bs cs : List ℕ) (j i : Job) → readJob bs ≡ reads j → readJob cs ≡ reads i → OnlyStarts j i
+pub loaded-alike : (b : Board) (bs cs : List ℕ) (o i : SizedJob) → readJob bs ≡ reads o → readJob cs ≡ reads i → SameButStarts o i
     → BoardsAlike (step b (loads bs) .board) (step b (loads cs) .board)
 unfolding step
-loaded-alike b bs cs j i e q o = after-alike b b (boards-itself b) (load-alike bs cs j i e q o) .boards
+loaded-alike b bs cs o i e q x = after-alike b b (boards-itself b) (load-alike bs cs o i e q x) .boards
 
 -- ONE CALL on two such boards
 pub step-alike : {b c : Board} (k : Call) → SoundBoard b → SoundBoard c → BoardsAlike b c → StepsAlike (step b k) (step c k)
@@ -408,20 +451,20 @@ step-alike (writesPlan buf) s t both-empty = record { one-reply = refl; boards =
 step-alike (writesRegister buf) s t both-empty = record { one-reply = refl; boards = both-empty }
 step-alike slices s t both-empty = record { one-reply = refl; boards = both-empty }
 step-alike (writesCuts buf) s t both-empty = record { one-reply = refl; boards = both-empty }
-step-alike (turns u v) s t (both-hold {j} {i} {p} o) =
-    after-alike (holding j p) (holding i p) (both-hold o) (turn-alike o p p s t u v)
-step-alike (rectangle v) s t (both-hold {j} {i} {p} o) =
-    asks-alike (holding j p) (holding i p) _ _ _ (vertex-same o v) (both-hold o)
-step-alike (touches u v) s t (both-hold {j} {i} {p} o) =
-    asks-alike (holding j p) (holding i p) _ _ _ (rw (vertex-same o u, vertex-same o v)) (both-hold o)
-step-alike (writesJob buf) s t (both-hold {j} {i} {p} o) =
-    writes-alike (holding j p) (holding i p) (writeJob j) (writeJob i) buf (written-same o) (both-hold o)
-step-alike (writesPlan buf) s t (both-hold {j} {i} {p} o) =
-    writes-alike (holding j p) (holding i p) (writePlan p) (writePlan p) buf refl (both-hold o)
-step-alike (writesRegister buf) s t (both-hold {j} {i} {p} o) =
-    writes-alike (holding j p) (holding i p) (writeRegister (register p)) (writeRegister (register p)) buf refl (both-hold o)
-step-alike slices s t (both-hold {j} {i} {p} o) = asks-alike (holding j p) (holding i p) _ _ _ refl (both-hold o)
-step-alike (writesCuts buf) s t (both-hold {j} {i} {p} o) = tree-alike (holding j p) (holding i p) (planTree p) buf (both-hold o)
+step-alike (turns u v) s t (both-hold {o} {i} {p} x) =
+    after-alike (holding o p) (holding i p) (both-hold x) (turn-alike x p p s t u v)
+step-alike (rectangle v) s t (both-hold {o} {i} {p} x) =
+    asks-alike (holding o p) (holding i p) _ _ _ (vertex-same (stars-of x) v) (both-hold x)
+step-alike (touches u v) s t (both-hold {o} {i} {p} x) =
+    asks-alike (holding o p) (holding i p) _ _ _ (rw (vertex-same (stars-of x) u, vertex-same (stars-of x) v)) (both-hold x)
+step-alike (writesJob buf) s t (both-hold {o} {i} {p} x) =
+    writes-alike (holding o p) (holding i p) (writeSized o) (writeSized i) buf (written-alike x) (both-hold x)
+step-alike (writesPlan buf) s t (both-hold {o} {i} {p} x) =
+    writes-alike (holding o p) (holding i p) (writePlan p) (writePlan p) buf refl (both-hold x)
+step-alike (writesRegister buf) s t (both-hold {o} {i} {p} x) =
+    writes-alike (holding o p) (holding i p) (writeRegister (register p)) (writeRegister (register p)) buf refl (both-hold x)
+step-alike slices s t (both-hold {o} {i} {p} x) = asks-alike (holding o p) (holding i p) _ _ _ refl (both-hold x)
+step-alike (writesCuts buf) s t (both-hold {o} {i} {p} x) = tree-alike (holding o p) (holding i p) (planTree p) buf (both-hold x)
 
 -- ANY CALLS on two such boards
 pub run-alike : (b c : Board) (ks : List Call) → SoundBoard b → SoundBoard c → BoardsAlike b c → BoardsAlike (run b ks) (run c ks)

@@ -9,7 +9,7 @@ use lib.ListN.{length}
 use borrow.Author.Tests.{eq-eqb, ne-eqb}
 use Rattle.floor.specs.Lists.{any}
 use Rattle.floor.specs.Lists.Laws.{no-false, same-test}
-use Rattle.floor.specs.Jobs.{Entry, Job, Vertex, Room, opposite, starOf, names}
+use Rattle.floor.specs.Jobs.{Entry, Job, Vertex, Room, opposite, starOf, names, SizedJob}
 use Rattle.floor.specs.Jobs.Facts.{EntryOk, star-frame}
 use Rattle.floor.specs.Walls.{low, at}
 use Rattle.floor.specs.Plans.{Plan, rectOf, Touch, clear, wall, isWall, touchOf, planOf, nextSide, joined}
@@ -88,48 +88,49 @@ unjoined j left = rw (star-frame j 1 (omega arith), star-frame j 3 (omega arith)
 unjoined j down = rw (star-frame j 2 (omega arith), star-frame j 0 (omega arith)) refl
 unjoined j right = rw (star-frame j 3 (omega arith), star-frame j 1 (omega arith)) refl
 
-module _ (j : Job) (p : Plan) (s : Sound j p) where
+module _ (o : SizedJob) (p : Plan) (s : Sound o p) where
   -- the plan is good for the job
-  gp : GoodPlan j p
-  gp = sound-good j p s
+  gp : GoodPlan (o .stars) p
+  gp = sound-good o p s
 
   -- the rectangle of every vertex has a cell
-  solid : (v : ℕ) → Vertex j v → Solid (rectOf p v)
+  solid : (v : ℕ) → Vertex (o .stars) v → Solid (rectOf p v)
   solid v h = record { wide = gp .inside v h .wide; tall = gp .inside v h .tall }
 
   -- A WALL EXACTLY WHERE THEY ARE JOINED
-  pub touch-joined : (u v : ℕ) → Vertex j u → Vertex j v → (u ≡ v → ⊥) → isWall (touching p u v) ≡ joined j u v
+  pub touch-joined : (u v : ℕ) → Vertex (o .stars) u → Vertex (o .stars) v → (u ≡ v → ⊥) → isWall (touching p u v) ≡ joined (o .stars) u v
   touch-joined u v hu hv d =
       ap isWall (touch-two p u v d)
-      ∙ same-test (isWall (touchOf (rectOf p u) (rectOf p v))) (joined j u v)
-      (λ e. of-joined j u v (same .0 (shares-of (rectOf p u) (rectOf p v) e)))
-      (λ e. of-shares (rectOf p u) (rectOf p v) (same .1 (joined-of j u v e)))
+      ∙ same-test (isWall (touchOf (rectOf p u) (rectOf p v))) (joined (o .stars) u v)
+      (λ e. of-joined (o .stars) u v (same .0 (shares-of (rectOf p u) (rectOf p v) e)))
+      (λ e. of-shares (rectOf p u) (rectOf p v) (same .1 (joined-of (o .stars) u v e)))
     where
-      same : Shares (rectOf p u) (rectOf p v) ↔ Joined j u v
+      same : Shares (rectOf p u) (rectOf p v) ↔ Joined (o .stars) u v
       same = gp .floor .contacts u v hu hv d
 
   -- THE SIDE AND THE LENGTH as the rectangles stand
-  pub touch-borders : (u v : ℕ) → Vertex j u → Vertex j v → (u ≡ v → ⊥) → (k n : ℕ) → (touching p u v ≡ wall k n) ↔ Borders k n (rectOf p u) (rectOf p v)
+  pub touch-borders : (u v : ℕ) → Vertex (o .stars) u → Vertex (o .stars) v → (u ≡ v → ⊥) → (k n : ℕ)
+      → (touching p u v ≡ wall k n) ↔ Borders k n (rectOf p u) (rectOf p v)
   touch-borders u v hu hv d k n = rw (touch-two p u v d) (touch-exactly (rectOf p u) (rectOf p v) (solid u hu) (solid v hv) k n)
 
   -- THE OTHER WAY ROUND
-  pub touching-back : (u v : ℕ) → Vertex j u → Vertex j v → (k n : ℕ) → touching p u v ≡ wall k n → touching p v u ≡ wall (opposite k) n
+  pub touching-back : (u v : ℕ) → Vertex (o .stars) u → Vertex (o .stars) v → (k n : ℕ) → touching p u v ≡ wall k n → touching p v u ≡ wall (opposite k) n
   touching-back u v hu hv k n e =
       let d : u ≡ v → ⊥ = touch-other p u v k n e in
       touch-two p v u (λ q. d (sym q)) ∙ touch-back (rectOf p u) (rectOf p v) (solid u hu) (solid v hv) k n (sym (touch-two p u v d) ∙ e)
 
   -- THE LABELLED SIDE of a room and whom its star names
-  pub touch-label : (u : ℕ) → Room j u → (e : Entry) → List·Memᴰ e (starOf j u) → (n : ℕ) × (touching p u (e .to) ≡ wall (e .kind) n)
+  pub touch-label : (u : ℕ) → Room (o .stars) u → (e : Entry) → List·Memᴰ e (starOf (o .stars) u) → (n : ℕ) × (touching p u (e .to) ≡ wall (e .kind) n)
   touch-label u r e m =
-      let ok : EntryOk (length j) u e = s .passes .entries u r e m in
+      let ok : EntryOk (length (o .stars)) u e = s .passes .entries u r e m in
       let (n, q) = touch-stands (rectOf p u) (rectOf p (e .to)) (solid u (r .1)) (solid (e .to) (ok .below)) (e .kind) (omega (arith, ok .small))
       (gp .floor .stands u r e m) in
       (n, touch-two p u (e .to) (λ x. ok .other (sym x)) ∙ q)
 
   -- of two neighbouring sides of the frame, the one to the right stands there with one cell's length of wall
   rightward : (t r : Side) → Beside right t r → touching p (num t) (num r) ≡ wall 3 1
-  rightward t r b = touch-borders (num t) (num r) (side-vertex j t) (side-vertex j r) (two b) 3 1 .1
-      (rw (s .is-drawn .is-plan) (frame-borders j (at (s .is-drawn .xs)) (at (s .is-drawn .ys)) t r b))
+  rightward t r b = touch-borders (num t) (num r) (side-vertex (o .stars) t) (side-vertex (o .stars) r) (two b) 3 1 .1
+      (rw (s .is-drawn .is-plan) (frame-borders (o .stars) (at (s .is-drawn .xs)) (at (s .is-drawn .ys)) t r b))
     where
       two : {t r : Side} → Beside right t r → num t ≡ num r → ⊥
       two wn e = omega arith
@@ -141,7 +142,7 @@ module _ (j : Job) (p : Plan) (s : Sound j p) where
   pub frame-touch : (k t r : Side) → Beside k t r → touching p (num t) (num r) ≡ wall (num k) 1
   unfolding opposite
   frame-touch right t r b = rightward t r b
-  frame-touch left t r b = touching-back (num r) (num t) (side-vertex j r) (side-vertex j t) 3 1 (rightward r t (beside-back right t r b))
+  frame-touch left t r b = touching-back (num r) (num t) (side-vertex (o .stars) r) (side-vertex (o .stars) t) 3 1 (rightward r t (beside-back right t r b))
   frame-touch up t r b = elim b [ ]
   frame-touch down t r b = elim b [ ]
 
@@ -149,10 +150,10 @@ module _ (j : Job) (p : Plan) (s : Sound j p) where
   pub frame-clear : (t : Side) → touching p (num t) (num (opp t)) ≡ clear
   frame-clear t =
       no-wall (touching p (num t) (num (opp t)))
-      (touch-joined (num t) (num (opp t)) (side-vertex j t) (side-vertex j (opp t)) (across t .0) ∙ across t .1)
+      (touch-joined (num t) (num (opp t)) (side-vertex (o .stars) t) (side-vertex (o .stars) (opp t)) (across t .0) ∙ across t .1)
     where
-      across : (t : Side) → (num t ≡ num (opp t) → ⊥) × (joined j (num t) (num (opp t)) ≡ false)
-      across up = (λ e. omega arith, unjoined j up)
-      across left = (λ e. omega arith, unjoined j left)
-      across down = (λ e. omega arith, unjoined j down)
-      across right = (λ e. omega arith, unjoined j right)
+      across : (t : Side) → (num t ≡ num (opp t) → ⊥) × (joined (o .stars) (num t) (num (opp t)) ≡ false)
+      across up = (λ e. omega arith, unjoined (o .stars) up)
+      across left = (λ e. omega arith, unjoined (o .stars) left)
+      across down = (λ e. omega arith, unjoined (o .stars) down)
+      across right = (λ e. omega arith, unjoined (o .stars) right)

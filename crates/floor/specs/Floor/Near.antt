@@ -10,7 +10,7 @@ use lib.ListN.{length, getD}
 use borrow.Author.Tests.{eqb-true, ltb-true, eq-eqb, lt-ltb}
 use Rattle.floor.specs.Lists.{all, upFrom}
 use Rattle.floor.specs.Lists.Laws.{no-false, same-test, and-parts, or-cases, or-right, all-mem, mem-all, any-mem, mem-any, upFrom-mem, mem-upFrom}
-use Rattle.floor.specs.Jobs.{Star, Job, lists}
+use Rattle.floor.specs.Jobs.{Star, Job, lists, Sizes}
 use Rattle.floor.specs.Jobs.Facts.{Passes}
 use Rattle.floor.specs.Walls.{Numbers, upright, level, rules}
 use Rattle.floor.specs.Plans.{Plan, planOf, drawable}
@@ -241,15 +241,15 @@ module _ (j : Job) (ok : Passes j) where
             total-one (length j) i one (b .0) (true-one i (of-base i b)) (λ k h d. false-one k (λ e. d (l .base-one k i (base-of k h e) b)))
 
   -- THE LOCAL TEST GIVES THE DRAWING TEST'S ANSWER
-  pub near-drawable : 0 < length j → (f h : ℕ → ℕ) → Numbers (rules upright j) f → Numbers (rules level j) h
+  pub near-drawable : (z : Sizes) → 0 < length j → (f h : ℕ → ℕ) → Numbers (rules upright j z) f → Numbers (rules level j z) h
       → near j (planOf j f h) ≡ drawable j (planOf j f h)
-  near-drawable some-room f h nf nh = same-test (near j p) (drawable j p) forth back
+  near-drawable z some-room f h nf nh = same-test (near j p) (drawable j p) forth back
     where
       p : Plan
       p = planOf j f h
 
       ft : Fits (starsOf j) (placeOf p)
-      ft = plan-fits j ok some-room f h nf nh
+      ft = plan-fits j z ok some-room f h nf nh
 
       forth : near j p ≡ true → drawable j p ≡ true
       forth e = good-drawable j ok p (plan-complete j f h) (good-plan j ok p (plan-complete j f h) (local-good (starsOf j) (placeOf p) g (near-local p ft e)))

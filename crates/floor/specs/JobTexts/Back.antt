@@ -1,26 +1,31 @@
 -- Each text that is written is read back as the same job; and a job's bytes, written as text and read, are the very bytes. Assumes nothing.
 use Prim.Native.Nat.{ℕ, zero, suc, _+_, _-_, _*_, _≤_, _<_}
-use mathlib.Core.Path.{_≡_, refl, sym, ap, _∙_}
-use mathlib.Core.Bool.{Bool, true, false, not, _&&_}
+use mathlib.Core.Path.{_≡_, refl, sym, ap, _∙_, subst}
+use mathlib.Core.Logic.{inl, inr}
+use mathlib.Core.Bool.{Bool, true, false, cond, not, _&&_, _||_}
 use mathlib.Core.Option.{Option, none, some}
-use mathlib.Core.List.{List, [], _∷_, _++_, append-nil, append-assoc}
-use lib.ListN.{length, drop, length-append}
+use mathlib.Core.List.{List, [], _∷_, _++_, map, append-nil, append-assoc}
+use lib.ListN.{length, drop, getD, length-append, length-map}
+use lib.Seq.{ext-getD}
 use lib.Dec.{leb, ltb, eqb}
 use native.Mathlib.Omega.{arith}
 use native.Mathlib.Decide.{decLt}
 use borrow.Author.Tests.{ltb-true, leb-true, eqb-true, lt-ltb, le-leb, lt-leb, eq-eqb, ne-eqb, not-true}
-use Rattle.floor.specs.Lists.{all, sum, sameNumbers, upFrom}
-use Rattle.floor.specs.Lists.Laws.{no-false, and-left, and-right, and-parts, and-both, all-mem, upFrom-mem}
+use Rattle.floor.specs.Lists.{all, any, sum, sameNumbers, upFrom}
+use Rattle.floor.specs.Lists.Laws.{no-false, and-left, and-right, and-parts, and-both, all-mem, upFrom-mem, length-upFrom, getD-upFrom}
 use Rattle.floor.specs.Quoted.{plain}
 use Rattle.floor.specs.Texts.{digits, decimal}
 use Rattle.floor.specs.Fields.{Bytes, writeField}
 use Rattle.floor.specs.Fields.Laws.{bytes-behind}
-use Rattle.floor.specs.Jobs.{Entry, Star, Job, pairsIn, test2, test3, Reading, fails, reads, passing, firstThree, readJob, starBytes, writeStars, writeJob}
-use Rattle.floor.specs.Jobs.Written.{read-test2, length-writeJob, write-read-job}
-use Rattle.floor.specs.JobTexts.{sideWords, frameWords, sideWord, vertexWord, contactText, contactsText, roomText, roomsText, jobText}
-use Rattle.floor.specs.JobTexts.{blank, letter, skip, word, behindWord, next, digit, digitsOn, numberOf, placeOf, kindOfWord, aByte, orElse, vertexOfWord, says}
-use Rattle.floor.specs.JobTexts.{star, behindContact, followed, contact, contacts, anyContacts, behindNumber, roomLine, longer, lines, uncommented, nothing}
-use Rattle.floor.specs.JobTexts.{aJob, behindStar, taken, readLines, readText, sided, texted, textAnswer, textOf, jobAnswer, jobOf}
+use Rattle.floor.specs.Jobs.{Entry, Star, Job, Size, Sizes, SizedJob, sizedJob, oneCell, sizeOf, sizeOk, larger, pairsIn, test2, test3, test17, Reading}
+use Rattle.floor.specs.Jobs.{fails, reads, passing, firstThree, readJob, starBytes, writeStars, writeJob, writeSizes, writeSized}
+use Rattle.floor.specs.Jobs.Facts.{Fair, room-fair}
+use Rattle.floor.specs.Jobs.Written.{Counts, read-test2, read-counts, length-writeSized, write-read-job}
+use Rattle.floor.specs.JobTexts.{sideWords, frameWords, sideWord, vertexWord, contactText, contactsText, sizeText, commaBehind, sizeBehind, roomText}
+use Rattle.floor.specs.JobTexts.{roomsText, jobText, blank, letter, skip, word, behindWord, next, digit, digitsOn, numberOf, placeOf, kindOfWord, aByte}
+use Rattle.floor.specs.JobTexts.{orElse, vertexOfWord, says, nothing, Line, star, behindContact, followed, contact, sizeSaid, sizeAt, sizeOr, contacts}
+use Rattle.floor.specs.JobTexts.{anyContacts, behindNumber, roomLine, longer, lines, uncommented, aJob, behindRoom, taken, readLines, toldSizes, toldJob}
+use Rattle.floor.specs.JobTexts.{readText, sided, texted, textAnswer, textOf, jobAnswer, jobOf}
 
 -- every neighbour is a byte
 unfoldable pub bytesOnly : Job → Bool
@@ -79,13 +84,19 @@ sides = refl
 
 -- every number up to 255 is written as a vertex of at most three letters, and read back
 vertices : all (tells 3 vertexWord vertexOfWord) (upFrom 0 256) ≡ true
-unfolding all upFrom isWord inLine nothing letter vertexWord frameWords vertexOfWord placeOf sameNumbers plain decimal digits numberOf digitsOn digit aByte orElse says
+unfolding all upFrom isWord inLine nothing letter vertexWord frameWords vertexOfWord placeOf sameNumbers plain decimal digits numberOf digitsOn digit aByte
+    orElse says
 vertices = refl
 
 -- every number below 64 is written in at most two digits, and read back
 numbers : all (tells 2 decimal numberOf) (upFrom 0 64) ≡ true
 unfolding all upFrom isWord inLine nothing letter decimal digits numberOf digitsOn digit says
 numbers = refl
+
+-- no side is `at`
+no-side : all (λ k. not (sameNumbers (sideWord k) (plain "at"))) (upFrom 0 4) ≡ true
+unfolding all upFrom sideWord sideWords sameNumbers plain
+no-side = refl
 
 -- each kind is written as a word of at most five letters, and read back
 side-told : (k : ℕ) → k < 4 → Told 5 sideWord kindOfWord k
@@ -98,6 +109,10 @@ vertex-told = told 3 vertexWord vertexOfWord 256 vertices
 -- each number below 64 is written as a word of at most two digits, and read back
 room-told : (r : ℕ) → r < 64 → Told 2 decimal numberOf r
 room-told = told 2 decimal numberOf 64 numbers
+
+-- the word of no side is `at`
+side-not-at : (k : ℕ) → k < 4 → sameNumbers (sideWord k) (plain "at") ≡ false
+side-not-at k h = not-true _ (all-mem (λ k. not (sameNumbers (sideWord k) (plain "at"))) (upFrom 0 4) no-side k (upFrom-mem 0 4 k (omega arith) (omega arith)))
 
 -- ---- words that are read
 
@@ -155,6 +170,15 @@ mark-stands : (b : ℕ) (t : List ℕ) → letter b ≡ false → blank b ≡ fa
 unfolding stops skip
 mark-stands b t l m = (rw l, rw m)
 
+-- a word with nothing behind it is read, and nothing is left
+word-whole : (w : List ℕ) → all letter w ≡ true → (word w ≡ w) × (next w ≡ [])
+unfolding stops skip
+word-whole w a = (ap word (sym (append-nil w)) ∙ word-read w [] a refl, ap next (sym (append-nil w)) ∙ next-behind w [] a refl)
+
+-- a space skipped in front of such a word leaves it
+skip-whole : (n : ℕ) (w : List ℕ) → Word n w → skip (32 ∷ w) ≡ w
+skip-whole n w k = ap (λ (l : List ℕ). skip (32 ∷ l)) (sym (append-nil w)) ∙ skip-space n w [] k ∙ append-nil w
+
 -- where something stands in front, something stands there
 some-append : (w t : List ℕ) → nothing w ≡ false → nothing (w ++ t) ≡ false
 unfolding nothing
@@ -176,7 +200,7 @@ contact-front e t = ap (λ (l : List ℕ). 32 ∷ l) (append-assoc (sideWord (e 
 -- A CONTACT IS READ, and what follows it is left
 contact-read : (left : ℕ) (e : Entry) (t : List ℕ) → e .kind < 4 → e .to < 256 → stops t ≡ true → skip t ≡ t
     → contacts (suc left) (skip (contactText e ++ t)) ≡ behindContact e (followed t (contacts left (skip (drop 1 t))))
-unfolding contacts contact
+unfolding contacts contact sizeOr
 contact-read left e t h l s c =
     let (p, k) = side-told (e .kind) h in
     let (q, v) = vertex-told (e .to) l in
@@ -185,6 +209,7 @@ contact-read left e t h l s c =
       contact-front e t,
       skip-space 5 (sideWord (e .kind)) (32 ∷ u) p,
       word-read (sideWord (e .kind)) (32 ∷ u) (p .letters) (space-stops u),
+      side-not-at (e .kind) h,
       k,
       next-behind (sideWord (e .kind)) (32 ∷ u) (p .letters) (space-stops u),
       skip-space 3 (vertexWord (e .to)) t q,
@@ -194,38 +219,149 @@ contact-read left e t h l s c =
       c,
     )
 
--- what follows a contact: nothing, or a comma and the others
-unfoldable moreText : Star → List ℕ
-moreText [] = []
-moreText (e ∷ s) = 44 ∷ contactsText (e ∷ s)
+-- ---- a room's least size
 
--- the contacts of a room are the first, and what follows it
-contacts-front : (e : Entry) (s : Star) → contactsText (e ∷ s) ≡ contactText e ++ moreText s
-unfolding contactsText moreText plain
-contacts-front e [] = sym (append-nil (contactText e))
-contacts-front e (f ∷ s) = refl
+-- a least size behind `at`
+unfoldable leastText : Size → List ℕ
+leastText z = plain "least " ++ (decimal (z .wide) ++ (plain " by " ++ decimal (z .tall)))
+
+-- what stands behind a least width
+unfoldable byText : Size → List ℕ
+byText z = plain "by " ++ decimal (z .tall)
+
+-- `at` is read, and what follows it is left
+at-read : (z : Size) → (word (skip (sizeText z)) ≡ plain "at") × (next (skip (sizeText z)) ≡ leastText z)
+unfolding sizeText leastText plain skip blank word behindWord next letter
+at-read z = (refl, refl)
+
+-- `least` is read, and what follows it is left
+least-read : (z : Size) → Fair z → (word (leastText z) ≡ plain "least") × (next (leastText z) ≡ decimal (z .wide) ++ (32 ∷ byText z))
+unfolding leastText byText plain word behindWord next letter
+least-read z f = (refl, skip-space 2 (decimal (z .wide)) _ (room-told (z .wide) (omega (arith, f .most-width)) .0))
+
+-- `by` is read, and what follows it is left
+by-read : (z : Size) → Fair z → (skip (32 ∷ byText z) ≡ byText z) × (word (byText z) ≡ plain "by") × (next (byText z) ≡ decimal (z .tall))
+unfolding byText plain skip blank word behindWord next letter
+by-read z f = (refl, refl, skip-whole 2 (decimal (z .tall)) (room-told (z .tall) (omega (arith, f .most-height)) .0))
+
+-- a number up to 15 is written and read back as a byte
+byte-told : (n : ℕ) → n ≤ 15 → aByte (numberOf (decimal n)) ≡ some n
+unfolding aByte
+byte-told n h = rw (room-told n (omega arith) .1, lt-ltb n 256 (omega arith))
+
+-- A LEAST SIZE IS READ BACK
+size-read : (z : Size) → Fair z → sizeAt (leastText z) ≡ star [] z
+unfolding sizeAt sizeSaid nothing
+size-read z f =
+    let w : List ℕ = decimal (z .wide) in
+    let p : Word 2 w = room-told (z .wide) (omega (arith, f .most-width)) .0 in
+    let q : Word 2 (decimal (z .tall)) = room-told (z .tall) (omega (arith, f .most-height)) .0 in
+    let (a, b) = least-read z f in
+    let (c, d, e) = by-read z f in
+    let (g, h) = word-whole (decimal (z .tall)) (q .letters) in
+    rw (
+      a,
+      b,
+      word-read w (32 ∷ byText z) (p .letters) (space-stops (byText z)),
+      next-behind w (32 ∷ byText z) (p .letters) (space-stops (byText z)),
+      c,
+      d,
+      e,
+      g,
+      h,
+      byte-told (z .wide) (f .most-width),
+      byte-told (z .tall) (f .most-height),
+      least-same,
+      by-same,
+    )
+  where
+    least-same : sameNumbers (plain "least") (plain "least") ≡ true
+    least-same = unfold sameNumbers plain in refl
+
+    by-same : sameNumbers (plain "by") (plain "by") ≡ true
+    by-same = unfold sameNumbers plain in refl
+
+-- where `at` stands, it is a least size that is read
+size-or : (z : Size) (x : Line) → Fair z → sizeOr (skip (sizeText z)) x ≡ star [] z
+unfolding sizeOr
+size-or z x f = let (a, b) = at-read z in rw (a, at-same, b) (size-read z f)
+  where
+    at-same : sameNumbers (plain "at") (plain "at") ≡ true
+    at-same = unfold sameNumbers plain in refl
+
+-- a least size is read wherever a contact could stand
+size-contacts : (left : ℕ) (z : Size) → Fair z → contacts left (skip (sizeText z)) ≡ star [] z
+unfolding contacts
+size-contacts zero z f = size-or z _ f
+size-contacts (suc left) z f = size-or z _ f
+
+-- a size that is not more than one cell is one cell
+one-cell : (z : Size) → larger z ≡ false → oneCell ≡ z
+unfolding larger
+one-cell z e = go (eqb (z .wide) 1) refl (eqb (z .tall) 1) refl e
+  where
+    go : (a : Bool) → eqb (z .wide) 1 ≡ a → (b : Bool) → eqb (z .tall) 1 ≡ b → (not a || not b) ≡ false → oneCell ≡ z
+    go true p true q e =
+        let w : 1 ≡ z .wide = sym (eqb-true (z .wide) 1 p) in
+        let h : 1 ≡ z .tall = sym (eqb-true (z .tall) 1 q) in
+        λ n. record { wide = w n; tall = h n }
+    go true p false q e = no-false (sym e)
+    go false p b q e = no-false (sym e)
+
+-- ---- what stands behind a room's colon
+
+-- what follows a contact: a comma and the others; or a comma and the least size; or nothing
+unfoldable moreText : Star → Size → List ℕ
+moreText [] z = cond (larger z) (44 ∷ sizeText z) []
+moreText (e ∷ s) z = 44 ∷ (contactsText (e ∷ s) ++ sizeBehind (e ∷ s) z)
+
+-- what stands behind a room's colon is the first contact, and what follows it
+contacts-front : (e : Entry) (s : Star) (z : Size) → contactsText (e ∷ s) ++ sizeBehind (e ∷ s) z ≡ contactText e ++ moreText s z
+unfolding contactsText sizeBehind commaBehind moreText plain
+contacts-front e [] z = refl
+contacts-front e (f ∷ s) z = append-assoc (contactText e) (44 ∷ contactsText (f ∷ s)) (sizeBehind (f ∷ s) z)
+
+-- a comma is neither a letter nor a blank
+comma-stands : (t : List ℕ) → (stops (44 ∷ t) ≡ true) × (skip (44 ∷ t) ≡ 44 ∷ t)
+unfolding letter blank
+comma-stands t = mark-stands 44 t refl refl
 
 -- what follows a contact has neither a letter nor a blank in front
-more-stands : (s : Star) → (stops (moreText s) ≡ true) × (skip (moreText s) ≡ moreText s)
-unfolding moreText stops skip letter blank
-more-stands [] = (refl, refl)
-more-stands (e ∷ s) = mark-stands 44 (contactsText (e ∷ s)) refl refl
+more-stands : (s : Star) (z : Size) → (stops (moreText s z) ≡ true) × (skip (moreText s z) ≡ moreText s z)
+unfolding moreText
+more-stands [] z = go (larger z)
+  where
+    go : (b : Bool) → (stops (cond b (44 ∷ sizeText z) []) ≡ true) × (skip (cond b (44 ∷ sizeText z) []) ≡ cond b (44 ∷ sizeText z) [])
+    go true = comma-stands (sizeText z)
+    go false = unfold stops skip in (refl, refl)
+more-stands (e ∷ s) z = comma-stands (contactsText (e ∷ s) ++ sizeBehind (e ∷ s) z)
 
--- what follows a contact is read back as the other contacts, where so many are left
-more-read : (left : ℕ) (s : Star) → length s ≤ left → Writable s → followed (moreText s) (contacts left (skip (drop 1 (moreText s)))) ≡ star s
+-- what follows a contact is read back as the other contacts and the least size, where so many are left
+more-read : (left : ℕ) (s : Star) (z : Size) → length s ≤ left → Writable s → Fair z
+    → followed (moreText s z) (contacts left (skip (drop 1 (moreText s z)))) ≡ star s z
 unfolding moreText followed behindContact
-more-read left [] l w = refl
-more-read zero (e ∷ s) l w = absurd (omega arith)
-more-read (suc left) (e ∷ s) l (h, m, w) =
-    let (a, b) = more-stands s in
-    rw (contacts-front e s) (contact-read left e (moreText s) h m a b ∙ ap (behindContact e) (more-read left s (omega arith) w))
+more-read left [] z l w f = go (larger z) refl
+  where
+    go : (b : Bool) → larger z ≡ b
+        → followed (cond b (44 ∷ sizeText z) []) (contacts left (skip (drop 1 (cond b (44 ∷ sizeText z) [])))) ≡ star [] z
+    go true e = unfold followed in size-contacts left z f
+    go false e = unfold followed in ap (star []) (one-cell z e)
+more-read zero (e ∷ s) z l w f = absurd (omega arith)
+more-read (suc left) (e ∷ s) z l (h, m, w) f =
+    let (a, b) = more-stands s z in
+    rw (contacts-front e s z) (contact-read left e (moreText s z) h m a b ∙ ap (behindContact e) (more-read left s z (omega arith) w f))
 
 -- a room with a contact has something behind the blanks of its contacts
-some-contacts : (e : Entry) (s : Star) → e .kind < 4 → nothing (skip (contactsText (e ∷ s))) ≡ false
-some-contacts e s h =
+some-contacts : (e : Entry) (s : Star) (z : Size) → e .kind < 4 → nothing (skip (contactsText (e ∷ s) ++ sizeBehind (e ∷ s) z)) ≡ false
+some-contacts e s z h =
     let (p, k) = side-told (e .kind) h in
-    let t : List ℕ = 32 ∷ (vertexWord (e .to) ++ moreText s) in
-    rw (contacts-front e s, contact-front e (moreText s), skip-space 5 (sideWord (e .kind)) t p) (some-append (sideWord (e .kind)) t (p .filled))
+    let t : List ℕ = 32 ∷ (vertexWord (e .to) ++ moreText s z) in
+    rw (contacts-front e s z, contact-front e (moreText s z), skip-space 5 (sideWord (e .kind)) t p) (some-append (sideWord (e .kind)) t (p .filled))
+
+-- so has a least size
+some-size : (z : Size) → nothing (skip (sizeText z)) ≡ false
+unfolding nothing skip blank sizeText plain
+some-size z = refl
 
 -- where something stands behind the colon, the contacts are read
 any-some : (left : ℕ) (t : List ℕ) → nothing t ≡ false → anyContacts left t ≡ contacts left t
@@ -233,41 +369,54 @@ unfolding nothing anyContacts
 any-some left [] e = no-false (sym e)
 any-some left (b ∷ t) e = refl
 
--- THE CONTACTS OF A ROOM ARE READ BACK, where so many are left
-contacts-read : (left : ℕ) (s : Star) → length s ≤ left → Writable s → anyContacts left (skip (contactsText s)) ≡ star s
-unfolding contactsText skip anyContacts moreText followed
-contacts-read left [] l w = refl
-contacts-read left (e ∷ s) l (h, m, w) = any-some left (skip (contactsText (e ∷ s))) (some-contacts e s h) ∙ more-read left (e ∷ s) l (h, m, w)
+-- WHAT STANDS BEHIND A ROOM'S COLON IS READ BACK, where so many contacts are left
+contacts-read : (left : ℕ) (s : Star) (z : Size) → length s ≤ left → Writable s → Fair z → anyContacts left (skip (contactsText s ++ sizeBehind s z)) ≡ star s z
+unfolding contactsText sizeBehind commaBehind moreText followed
+contacts-read left [] z l w f = go (larger z) refl
+  where
+    go : (b : Bool) → larger z ≡ b → anyContacts left (skip (cond b (sizeText z) [])) ≡ star [] z
+    go true e = any-some left (skip (sizeText z)) (some-size z) ∙ size-contacts left z f
+    go false e = unfold skip anyContacts in ap (star []) (one-cell z e)
+contacts-read left (e ∷ s) z l (h, m, w) f =
+    any-some left (skip (contactsText (e ∷ s) ++ sizeBehind (e ∷ s) z)) (some-contacts e s z h) ∙ more-read left (e ∷ s) z l (h, m, w) f
 
 -- ---- the line of a room
 
+-- a room's line behind its number and colon
+abbrev itemsOf : Star → Size → List ℕ
+itemsOf s z = contactsText s ++ sizeBehind s z
+
 -- a room's line, without its end
-abbrev lineOf : ℕ → Star → List ℕ
-lineOf r s = decimal r ++ (58 ∷ contactsText s)
+abbrev lineOf : ℕ → Star → Size → List ℕ
+lineOf r s z = decimal r ++ (58 ∷ itemsOf s z)
 
 -- a room's line in front of some text is the line, its end, and the text
-room-front : (r : ℕ) (s : Star) (t : List ℕ) → roomText r s ++ t ≡ lineOf r s ++ (10 ∷ t)
+room-front : (r : ℕ) (s : Star) (z : Size) (t : List ℕ) → roomText r s z ++ t ≡ lineOf r s z ++ (10 ∷ t)
 unfolding roomText plain
-room-front r s t =
-    append-assoc (decimal r) (58 ∷ (contactsText s ++ (10 ∷ []))) t ∙ ap (λ (l : List ℕ). decimal r ++ (58 ∷ l)) (append-assoc (contactsText s) (10 ∷ []) t)
-    ∙ sym (append-assoc (decimal r) (58 ∷ contactsText s) (10 ∷ t))
+room-front r s z t =
+    append-assoc (decimal r) (58 ∷ (contactsText s ++ (sizeBehind s z ++ (10 ∷ [])))) t
+    ∙ ap (λ (l : List ℕ). decimal r ++ (58 ∷ l))
+    (append-assoc (contactsText s) (sizeBehind s z ++ (10 ∷ [])) t
+    ∙ ap (λ (l : List ℕ). contactsText s ++ l) (append-assoc (sizeBehind s z) (10 ∷ []) t)
+    ∙ sym (append-assoc (contactsText s) (sizeBehind s z) (10 ∷ t)))
+    ∙ sym (append-assoc (decimal r) (58 ∷ itemsOf s z) (10 ∷ t))
 
 -- A ROOM'S LINE IS READ BACK
-room-read : (left r : ℕ) (s : Star) → 4 ≤ r → r < 64 → length s ≤ left → Writable s → roomLine left r (lineOf r s) ≡ star s
+room-read : (left r : ℕ) (s : Star) (z : Size) → 4 ≤ r → r < 64 → length s ≤ left → Writable s → Fair z → roomLine left r (lineOf r s z) ≡ star s z
 unfolding roomLine says behindNumber test2 letter blank
-room-read left r s l h m w =
+room-read left r s z l h m w f =
     let (p, q) = room-told r h in
-    let (a, b) = mark-stands 58 (contactsText s) refl refl in
+    let (a, b) = mark-stands 58 (itemsOf s z) refl refl in
     rw (
       le-leb 1 (r - 3) (omega arith),
       le-leb (r - 3) 60 (omega arith),
-      word-read (decimal r) (58 ∷ contactsText s) (p .letters) a,
+      word-read (decimal r) (58 ∷ itemsOf s z) (p .letters) a,
       q,
       eq-eqb r r refl,
-      next-behind (decimal r) (58 ∷ contactsText s) (p .letters) a,
+      next-behind (decimal r) (58 ∷ itemsOf s z) (p .letters) a,
       b,
     )
-    (contacts-read left s m w)
+    (contacts-read left s z m w f)
 
 -- it has no end of a line and no comment
 all-append : (p : ℕ → Bool) (a b : List ℕ) → all p a ≡ true → all p b ≡ true → all p (a ++ b) ≡ true
@@ -282,22 +431,37 @@ contact-fits e t h l f =
     let v : all inLine (vertexWord (e .to) ++ t) ≡ true = all-append inLine (vertexWord (e .to)) t (vertex-told (e .to) l .0 .fits) f in
     rw (contact-front e t) (all-append inLine (sideWord (e .kind)) (32 ∷ (vertexWord (e .to) ++ t)) (side-told (e .kind) h .0 .fits) v)
 
--- what follows a contact has no end of a line and no comment
-more-fits : (s : Star) → Writable s → all inLine (moreText s) ≡ true
-unfolding moreText all inLine
-more-fits [] w = refl
-more-fits (e ∷ s) (h, m, w) = rw (contacts-front e s) (contact-fits e (moreText s) h m (more-fits s w))
+-- a least size has no end of a line and no comment
+size-fits : (z : Size) → Fair z → all inLine (sizeText z) ≡ true
+unfolding sizeText plain all inLine
+size-fits z f =
+    all-append inLine (decimal (z .wide)) (32 ∷ 98 ∷ 121 ∷ 32 ∷ decimal (z .tall)) (room-told (z .wide) (omega (arith, f .most-width)) .0 .fits)
+    (room-told (z .tall) (omega (arith, f .most-height)) .0 .fits)
 
--- the contacts of a room have no end of a line and no comment
-contacts-fit : (s : Star) → Writable s → all inLine (contactsText s) ≡ true
-unfolding contactsText moreText all inLine
-contacts-fit [] w = refl
-contacts-fit (e ∷ s) w = more-fits (e ∷ s) w
+-- what follows a contact has no end of a line and no comment
+more-fits : (s : Star) (z : Size) → Writable s → Fair z → all inLine (moreText s z) ≡ true
+unfolding moreText all inLine
+more-fits [] z w f = go (larger z)
+  where
+    go : (b : Bool) → all inLine (cond b (44 ∷ sizeText z) []) ≡ true
+    go true = unfold all inLine in size-fits z f
+    go false = unfold all in refl
+more-fits (e ∷ s) z (h, m, w) f = rw (contacts-front e s z) (contact-fits e (moreText s z) h m (more-fits s z w f))
+
+-- what stands behind a room's colon has no end of a line and no comment
+items-fit : (s : Star) (z : Size) → Writable s → Fair z → all inLine (itemsOf s z) ≡ true
+unfolding contactsText sizeBehind commaBehind moreText all inLine
+items-fit [] z w f = go (larger z)
+  where
+    go : (b : Bool) → all inLine (cond b (sizeText z) []) ≡ true
+    go true = size-fits z f
+    go false = unfold all in refl
+items-fit (e ∷ s) z w f = more-fits (e ∷ s) z w f
 
 -- a room's line, without its end, has no end of a line and no comment
-line-fits : (r : ℕ) (s : Star) → r < 64 → Writable s → all inLine (lineOf r s) ≡ true
+line-fits : (r : ℕ) (s : Star) (z : Size) → r < 64 → Writable s → Fair z → all inLine (lineOf r s z) ≡ true
 unfolding all inLine
-line-fits r s h w = all-append inLine (decimal r) (58 ∷ contactsText s) (room-told r h .0 .fits) (contacts-fit s w)
+line-fits r s z h w f = all-append inLine (decimal r) (58 ∷ itemsOf s z) (room-told r h .0 .fits) (items-fit s z w f)
 
 -- ---- the lines of a job
 
@@ -319,17 +483,17 @@ no-comment (b ∷ l) a =
     let e : eqb b 35 ≡ false = not-true (eqb b 35) (and-right (not (eqb b 10)) (not (eqb b 35)) x) in
     rw (e, no-comment l m)
 
--- the line of room r in front of others is read as its star, and then the others, with room r + 1 next and so many fewer contacts left
-line-read : (i r left : ℕ) (s : Star) (ls : List (List ℕ)) → 4 ≤ r → r < 64 → length s ≤ left → Writable s
-    → readLines i r left (lineOf r s ∷ ls) ≡ behindStar s (readLines (suc i) (suc r) (left - length s) ls)
+-- the line of room r in front of others is read as its star and size, and then the others, with room r + 1 next and so many fewer contacts left
+line-read : (i r left : ℕ) (s : Star) (z : Size) (ls : List (List ℕ)) → 4 ≤ r → r < 64 → length s ≤ left → Writable s → Fair z
+    → readLines i r left (lineOf r s z ∷ ls) ≡ behindRoom s z (readLines (suc i) (suc r) (left - length s) ls)
 unfolding readLines taken
-line-read i r left s ls l h m w =
+line-read i r left s z ls l h m w f =
     let p : Word 2 (decimal r) = room-told r h .0 in
     rw (
-      no-comment (lineOf r s) (line-fits r s h w),
-      skip-word 2 (decimal r) (58 ∷ contactsText s) p,
-      some-append (decimal r) (58 ∷ contactsText s) (p .filled),
-      room-read left r s l h m w,
+      no-comment (lineOf r s z) (line-fits r s z h w f),
+      skip-word 2 (decimal r) (58 ∷ itemsOf s z) p,
+      some-append (decimal r) (58 ∷ itemsOf s z) (p .filled),
+      room-read left r s z l h m w f,
     )
 
 -- every star of the job has sides as its kinds and bytes as its neighbours
@@ -337,15 +501,15 @@ abbrev AllWritable : Job → Type 0
 AllWritable [] = Unit {0}
 AllWritable (s ∷ j) = Writable s × AllWritable j
 
--- THE LINES OF SOME ROOMS ARE READ BACK, where room r comes next and so many contacts are left
-lines-read : (i r left : ℕ) (j : Job) → 4 ≤ r → 4 < r + length j → r + length j ≤ 64 → pairsIn j ≤ left → AllWritable j
-    → readLines i r left (lines (roomsText r j)) ≡ aJob j
-unfolding readLines roomsText lines uncommented skip nothing behindStar pairsIn sum
-lines-read i r left [] l h m n w = rw (ne-eqb r 4 (λ q. omega arith))
-lines-read i r left (s ∷ j) l h m n (w, v) =
-    rw (room-front r s (roomsText (suc r) j), line-ends (lineOf r s) (roomsText (suc r) j) (line-fits r s (omega arith) w))
-    (line-read i r left s (lines (roomsText (suc r) j)) l (omega arith) (omega arith) w
-    ∙ ap (behindStar s) (lines-read (suc i) (suc r) (left - length s) j (omega arith) (omega arith) (omega arith) (omega arith) v))
+-- THE LINES OF SOME ROOMS ARE READ BACK, with a size for each, where room r comes next and so many contacts are left
+lines-read : (i r left : ℕ) (j : Job) (z : Sizes) → 4 ≤ r → 4 < r + length j → r + length j ≤ 64 → pairsIn j ≤ left → AllWritable j
+    → ((v : ℕ) → Fair (sizeOf z v)) → readLines i r left (lines (roomsText r j z)) ≡ aJob (sizedJob j (map (sizeOf z) (upFrom r (length j))))
+unfolding readLines roomsText lines uncommented skip nothing behindRoom pairsIn sum upFrom
+lines-read i r left [] z l h m n w f = rw (ne-eqb r 4 (λ q. omega arith))
+lines-read i r left (s ∷ j) z l h m n (w, v) f =
+    rw (room-front r s (sizeOf z r) (roomsText (suc r) j z), line-ends (lineOf r s (sizeOf z r)) (roomsText (suc r) j z) (line-fits r s (sizeOf z r) (omega arith) w (f r)))
+    (line-read i r left s (sizeOf z r) (lines (roomsText (suc r) j z)) l (omega arith) (omega arith) w (f r)
+    ∙ ap (behindRoom s (sizeOf z r)) (lines-read (suc i) (suc r) (left - length s) j z (omega arith) (omega arith) (omega arith) (omega arith) v f))
 
 -- ---- the whole text
 
@@ -374,10 +538,46 @@ limits j t2 t3 =
     let (a, b) = and-parts (leb 1 (length j)) (leb (length j) 60) t2 in
     (leb-true 1 (length j) a, leb-true (length j) 60 b, leb-true (pairsIn j) 360 t3)
 
+-- where no sizes are told, none of the rooms' is more than one cell
+none-larger : (u n : ℕ) → any larger (map (sizeOf []) (upFrom u n)) ≡ false
+unfolding any larger sizeOf upFrom
+none-larger u zero = refl
+none-larger u (suc n) = none-larger (suc u) n
+
+-- the sizes of all rooms, one after the other, are told as the job tells them
+told-back : (n : ℕ) (z : Sizes) → Counts n z → test17 z ≡ true → toldSizes (map (sizeOf z) (upFrom 4 n)) ≡ z
+unfolding toldSizes test17
+told-back n [] c t = rw (none-larger 4 n)
+told-back n (s ∷ z) (inl e) t = let q : _≡_ {A = ℕ} 0 1 = cc in absurd (omega arith)
+told-back n (s ∷ z) (inr e) t = rw (same, and-right (all sizeOk (s ∷ z)) (any larger (s ∷ z)) t)
+  where
+    at-room : (i : ℕ) → sizeOf (s ∷ z) (4 + i) ≡ getD (s ∷ z) i oneCell
+    at-room i = unfold sizeOf in let e : 4 + i - 4 ≡ i = omega arith in ap (λ (k : ℕ). getD (s ∷ z) k oneCell) e
+
+    same : map (sizeOf (s ∷ z)) (upFrom 4 n) ≡ s ∷ z
+    same =
+        ext-getD oneCell (map (sizeOf (s ∷ z)) (upFrom 4 n)) (s ∷ z) (omega (arith, length-map (upFrom 4 n) (sizeOf (s ∷ z)), length-upFrom 4 n))
+        (λ i h. getD-upFrom (sizeOf (s ∷ z)) 4 n i oneCell (omega (arith, length-map (upFrom 4 n) (sizeOf (s ∷ z)), length-upFrom 4 n)) ∙ at-room i)
+
+-- WHAT CAN BE WRITTEN AS TEXT: tests 2 and 3, kinds that are sides, neighbours that are bytes, as many sizes as rooms or none, and test 17
+pub record Textable (o : SizedJob) : Type 0 where
+  pub pass2 : test2 (length (o .stars)) ≡ true
+  pub pass3 : test3 (o .stars) ≡ true
+  pub sides : sided (o .stars) ≡ true
+  pub bytes : bytesOnly (o .stars) ≡ true
+  pub counts : Counts (length (o .stars)) (o .sizes)
+  pub pass17 : test17 (o .sizes) ≡ true
+
 -- EACH TEXT THAT IS WRITTEN IS READ BACK AS THE SAME JOB
-pub text-back : (j : Job) → test2 (length j) ≡ true → test3 j ≡ true → sided j ≡ true → bytesOnly j ≡ true → readText (jobText j) ≡ aJob j
-unfolding readText jobText
-text-back j t2 t3 s b = let (l, m, n) = limits j t2 t3 in lines-read 0 4 360 j (omega arith) (omega arith) (omega arith) n (job-writable j s b)
+pub text-back : (o : SizedJob) → Textable o → readText (jobText o) ≡ aJob o
+unfolding readText jobText toldJob
+text-back o x =
+    let (l, m, n) = limits (o .stars) (x .pass2) (x .pass3) in
+    rw (
+      lines-read 0 4 360 (o .stars) (o .sizes) (omega arith) (omega arith) (omega arith) n (job-writable (o .stars) (x .sides) (x .bytes))
+          (room-fair (o .sizes) (x .pass17)),
+      told-back (length (o .stars)) (o .sizes) (x .counts) (x .pass17),
+    )
 
 -- ---- how long a text is
 
@@ -393,40 +593,63 @@ contact-length e t h l =
       vertex-told (e .to) l .0 .short,
     ))
 
--- what follows a contact has at most eleven bytes for each of the others
-more-length : (s : Star) → Writable s → length (moreText s) ≤ 11 * length s
+-- a least size has at most eighteen bytes
+size-length : (z : Size) → Fair z → length (sizeText z) ≤ 18
+unfolding sizeText plain
+size-length z f =
+    omega (
+      arith,
+      length-append (decimal (z .wide)) (32 ∷ 98 ∷ 121 ∷ 32 ∷ decimal (z .tall)),
+      room-told (z .wide) (omega (arith, f .most-width)) .0 .short,
+      room-told (z .tall) (omega (arith, f .most-height)) .0 .short,
+    )
+
+-- what follows a contact has at most eleven bytes for each of the others, and nineteen for a least size
+more-length : (s : Star) (z : Size) → Writable s → Fair z → length (moreText s z) ≤ 19 + 11 * length s
 unfolding moreText
-more-length [] w = omega arith
-more-length (e ∷ s) (h, m, w) = rw (contacts-front e s) (omega (arith, contact-length e (moreText s) h m, more-length s w))
+more-length [] z w f = go (larger z)
+  where
+    go : (b : Bool) → length (cond b (44 ∷ sizeText z) []) ≤ 19
+    go true = omega (arith, size-length z f)
+    go false = omega arith
+more-length (e ∷ s) z (h, m, w) f = rw (contacts-front e s z) (omega (arith, contact-length e (moreText s z) h m, more-length s z w f))
 
--- the contacts of a room have at most eleven bytes each
-contacts-length : (s : Star) → Writable s → length (contactsText s) ≤ 11 * length s
-unfolding contactsText moreText
-contacts-length [] w = omega arith
-contacts-length (e ∷ s) w = omega (arith, more-length (e ∷ s) w)
+-- what stands behind a room's colon has at most eleven bytes for each contact, and nineteen for a least size
+items-length : (s : Star) (z : Size) → Writable s → Fair z → length (itemsOf s z) ≤ 19 + 11 * length s
+unfolding contactsText sizeBehind commaBehind moreText
+items-length [] z w f = go (larger z)
+  where
+    go : (b : Bool) → length (cond b (sizeText z) []) ≤ 19
+    go true = omega (arith, size-length z f)
+    go false = omega arith
+items-length (e ∷ s) z w f = omega (arith, more-length (e ∷ s) z w f)
 
--- a room's line has at most four bytes and eleven for each contact
-room-length : (r : ℕ) (s : Star) (t : List ℕ) → r < 64 → Writable s → length (roomText r s ++ t) ≤ 4 + 11 * length s + length t
-room-length r s t h w =
-    rw (room-front r s t)
+-- a room's line has at most 23 bytes and eleven for each contact
+room-length : (r : ℕ) (s : Star) (z : Size) (t : List ℕ) → r < 64 → Writable s → Fair z → length (roomText r s z ++ t) ≤ 23 + 11 * length s + length t
+room-length r s z t h w f =
+    rw (room-front r s z t)
     (omega (
       arith,
-      length-append (lineOf r s) (10 ∷ t),
-      length-append (decimal r) (58 ∷ contactsText s),
+      length-append (lineOf r s z) (10 ∷ t),
+      length-append (decimal r) (58 ∷ itemsOf s z),
       room-told r h .0 .short,
-      contacts-length s w,
+      items-length s z w f,
     ))
 
--- the lines of some rooms have at most four bytes for each room and eleven for each contact
-rooms-length : (r : ℕ) (j : Job) → r + length j ≤ 64 → AllWritable j → length (roomsText r j) ≤ 4 * length j + 11 * pairsIn j
+-- the lines of some rooms have at most 23 bytes for each room and eleven for each contact
+rooms-length : (r : ℕ) (j : Job) (z : Sizes) → r + length j ≤ 64 → AllWritable j → ((v : ℕ) → Fair (sizeOf z v))
+    → length (roomsText r j z) ≤ 23 * length j + 11 * pairsIn j
 unfolding roomsText pairsIn sum
-rooms-length r [] m w = omega arith
-rooms-length r (s ∷ j) m (w, v) = omega (arith, room-length r s (roomsText (suc r) j) (omega arith) w, rooms-length (suc r) j (omega arith) v)
+rooms-length r [] z m w f = omega arith
+rooms-length r (s ∷ j) z m (w, v) f =
+    omega (arith, room-length r s (sizeOf z r) (roomsText (suc r) j z) (omega arith) w (f r), rooms-length (suc r) j z (omega arith) v f)
 
--- A TEXT THAT IS WRITTEN IS SHORT: 60 rooms of 4 bytes, 360 contacts of 11
-pub text-length : (j : Job) → test2 (length j) ≡ true → test3 j ≡ true → sided j ≡ true → bytesOnly j ≡ true → length (jobText j) ≤ 4200
+-- A TEXT THAT IS WRITTEN IS SHORT: 60 rooms of 23 bytes, 360 contacts of 11
+pub text-length : (o : SizedJob) → Textable o → length (jobText o) ≤ 5340
 unfolding jobText
-text-length j t2 t3 s b = let (l, m, n) = limits j t2 t3 in omega (arith, rooms-length 4 j (omega arith) (job-writable j s b))
+text-length o x =
+    let (l, m, n) = limits (o .stars) (x .pass2) (x .pass3) in
+    omega (arith, rooms-length 4 (o .stars) (o .sizes) (omega arith) (job-writable (o .stars) (x .sides) (x .bytes)) (room-fair (o .sizes) (x .pass17)))
 
 -- ---- there and back
 
@@ -436,43 +659,65 @@ unfolding starBytes all
 star-small [] t b = refl
 star-small (e ∷ s) t b = and-both (ltb (e .to) 256) _ (lt-ltb (e .to) 256 (b .0)) (star-small s t (b .1 .1))
 
--- stars that are written as bytes have no neighbour over 255
-stars-small : (j : Job) → Bytes (writeStars j) → bytesOnly j ≡ true
+-- stars that are written as bytes in front of some more have no neighbour over 255
+stars-small : (j : Job) (t : List ℕ) → Bytes (writeStars j ++ t) → bytesOnly j ≡ true
 unfolding writeStars writeField bytesOnly all
-stars-small [] b = refl
-stars-small (s ∷ j) b =
-    let c : Bytes (starBytes s ++ writeStars j) = b .1 .1 .1 in
-    and-both (all (λ e. ltb (e .to) 256) s) _ (star-small s (writeStars j) c) (stars-small j (bytes-behind (starBytes s) (writeStars j) c))
+stars-small [] t b = refl
+stars-small (s ∷ j) t b =
+    let c : Bytes (starBytes s ++ (writeStars j ++ t)) = subst Bytes (append-assoc (starBytes s) (writeStars j) t) (b .1 .1 .1) in
+    and-both (all (λ e. ltb (e .to) 256) s) _ (star-small s (writeStars j ++ t) c) (stars-small j t (bytes-behind (starBytes s) (writeStars j ++ t) c))
 
 -- nor has a job that is written as bytes
-job-small : (j : Job) → Bytes (writeJob j) → bytesOnly j ≡ true
-unfolding writeJob
-job-small j b = stars-small j (bytes-behind (writeField 1 (length j ∷ [])) (writeStars j) b)
+job-small : (o : SizedJob) → Bytes (writeSized o) → bytesOnly (o .stars) ≡ true
+unfolding writeSized writeJob
+job-small o b =
+    stars-small (o .stars) (writeSizes (o .sizes)) (bytes-behind (writeField 1 (length (o .stars) ∷ [])) (writeStars (o .stars) ++ writeSizes (o .sizes))
+    (subst Bytes (append-assoc (writeField 1 (length (o .stars) ∷ [])) (writeStars (o .stars)) (writeSizes (o .sizes))) b))
+
+-- what passes a test behind another passed it, and is what went in
+passed : (a : Bool) (k : ℕ) (r : Reading SizedJob) (o : SizedJob) → passing a k r ≡ reads o → (a ≡ true) × (r ≡ reads o)
+unfolding passing
+passed true k r o e = (refl, e)
+passed false k r o e = let z : _≡_ {A = ℕ} 0 1 = cc in absurd (omega arith)
 
 -- what passes as text was read, and passed what is asked of it
-texted-parts : (r : Reading) (j : Job) → texted (firstThree r) ≡ reads j → (r ≡ reads j) × (test3 j ≡ true) × (sided j ≡ true)
-unfolding texted firstThree passing
-texted-parts (fails k) j e = let z : _≡_ {A = ℕ} 0 1 = cc in absurd (omega arith)
-texted-parts (reads i) j e = go (test3 i) refl (sided i) refl e
+texted-parts : (r : Reading SizedJob) (o : SizedJob) → texted (firstThree r) ≡ reads o
+    → (r ≡ reads o) × (test3 (o .stars) ≡ true) × (sided (o .stars) ≡ true) × (test17 (o .sizes) ≡ true)
+unfolding texted firstThree
+texted-parts (fails k) o e = let z : _≡_ {A = ℕ} 0 1 = cc in absurd (omega arith)
+texted-parts (reads i) o e = go (test3 (i .stars)) refl e
   where
-    go : (a : Bool) → test3 i ≡ a → (b : Bool) → sided i ≡ b → texted (passing a 3 (reads i)) ≡ reads j → (reads i ≡ reads j) × (test3 j ≡ true) × (sided j ≡ true)
-    go true p true q f = let g : reads i ≡ reads j = rw q at f in let x : i ≡ j = cc in (g, rw x at p, rw x at q)
-    go true p false q f = let g : fails 4 ≡ reads j = rw q at f in let z : _≡_ {A = ℕ} 0 1 = cc in absurd (omega arith)
-    go false p b q f = let z : _≡_ {A = ℕ} 0 1 = cc in absurd (omega arith)
+    job : reads i ≡ reads o → i ≡ o
+    job e = cc
+
+    go : (a : Bool) → test3 (i .stars) ≡ a → texted (passing a 3 (reads i)) ≡ reads o
+        → (reads i ≡ reads o) × (test3 (o .stars) ≡ true) × (sided (o .stars) ≡ true) × (test17 (o .sizes) ≡ true)
+    go true p f =
+        let (q, g) = passed (sided (i .stars)) 4 (passing (test17 (i .sizes)) 17 (reads i)) o (unfold passing in f) in
+        let (t, h) = passed (test17 (i .sizes)) 17 (reads i) o g in
+        let x : i ≡ o = job h in
+        (h, rw x at p, rw x at q, rw x at t)
+    go false p f = unfold passing texted in let z : _≡_ {A = ℕ} 0 1 = cc in absurd (omega arith)
 
 -- THERE AND BACK: the bytes of a job whose text can be written, written as text and read, are the very bytes
-pub there-and-back : (bs : List ℕ) (j : Job) → Bytes bs → texted (firstThree (readJob bs)) ≡ reads j → jobOf (textOf bs) ≡ bs
+pub there-and-back : (bs : List ℕ) (o : SizedJob) → Bytes bs → texted (firstThree (readJob bs)) ≡ reads o → jobOf (textOf bs) ≡ bs
 unfolding textOf textAnswer jobOf jobAnswer
-there-and-back bs j ok e =
-    let (r, t3, s) = texted-parts (readJob bs) j e in
-    let w : writeJob j ≡ bs = write-read-job bs j ok r in
-    let t2 : test2 (length j) ≡ true = read-test2 bs j r in
-    let b : bytesOnly j ≡ true = job-small j (rw w ok) in
-    let (_, rooms, pairs) = limits j t2 t3 in
-    let short : leb (length bs) 8192 ≡ true = le-leb (length bs) 8192 (omega (arith, ap length w, length-writeJob j)) in
-    let l : leb (length (jobText j)) 16384 ≡ true = le-leb (length (jobText j)) 16384 (omega (arith, text-length j t2 t3 s b)) in
-    rw (short, e, l, text-back j t2 t3 s b) w
+there-and-back bs o ok e =
+    let (r, t3, s, t17) = texted-parts (readJob bs) o e in
+    let w : writeSized o ≡ bs = write-read-job bs o ok r in
+    let x : Textable o = record {
+      pass2 = read-test2 bs o r;
+      pass3 = t3;
+      sides = s;
+      bytes = job-small o (rw w ok);
+      counts = read-counts bs o r;
+      pass17 = t17;
+    } in
+    let (_, rooms, pairs) = limits (o .stars) (x .pass2) t3 in
+    let short : leb (length bs) 8192 ≡ true = le-leb (length bs) 8192 (omega (arith, ap length w, length-writeSized o (x .counts))) in
+    let l : leb (length (jobText o)) 16384 ≡ true = le-leb (length (jobText o)) 16384 (omega (arith, text-length o x)) in
+    rw (short, e, l, text-back o x) w
 
 -- so is its text: written, read and written again
-pub text-again : (bs : List ℕ) (j : Job) → Bytes bs → texted (firstThree (readJob bs)) ≡ reads j → textOf (jobOf (textOf bs)) ≡ textOf bs
-text-again bs j ok e = ap textOf (there-and-back bs j ok e)
+pub text-again : (bs : List ℕ) (o : SizedJob) → Bytes bs → texted (firstThree (readJob bs)) ≡ reads o → textOf (jobOf (textOf bs)) ≡ textOf bs
+text-again bs o ok e = ap textOf (there-and-back bs o ok e)

@@ -3,17 +3,18 @@ use Prim.Native.Nat.{ℕ, zero, suc, _+_, _-_, _≤_, _<_}
 use mathlib.Core.Path.{_≡_, refl, sym, ap, _∙_}
 use mathlib.Core.Logic.{_⊎_, inl, inr}
 use mathlib.Core.Bool.{Bool, true, false, not, _&&_, _||_}
-use mathlib.Core.List.{[], List·Memᴰ, Memᴰ·cast}
-use lib.ListN.{length, getD}
+use mathlib.Core.List.{[], List·Memᴰ, Memᴰ·cast, _∷_}
+use lib.ListN.{length, getD, List·getD-eq-default}
 use lib.Dec.{leb, eqb}
 use native.Mathlib.Omega.{arith}
 use native.Mathlib.Decide.{decLt}
 use borrow.Author.Tests.{leb-true, eqb-true, eqb-false, le-leb, lt-leb, eq-eqb, ne-eqb, not-true}
 use Rattle.floor.specs.Lists.{all}
 use Rattle.floor.specs.Lists.Laws.{and-parts, and-both, or-cases, or-left, or-right, any-mem, mem-any, all-mem, mem-all, mem-getD, getD-mem, upFrom-mem}
-use Rattle.floor.specs.Lists.Laws.{mem-upFrom, implies, implied}
-use Rattle.floor.specs.Jobs.{Reading, fails, reads, passing, firstSix, Labelling, SixPassed, test3, Entry, Star, Job, Room, Vertex, opposite, frameKind, rooms, isVertex}
-use Rattle.floor.specs.Jobs.{isRoom, starOf, lists, entryOk, test4, starOk, test5, test6}
+use Rattle.floor.specs.Lists.Laws.{mem-upFrom, implies, implied, and-left}
+use Rattle.floor.specs.Jobs.{Reading, fails, reads, passing, firstSix, Labelling, SixPassed, test3, Entry, Star, Job, Room, Vertex, opposite, frameKind}
+use Rattle.floor.specs.Jobs.{rooms, isVertex, isRoom, starOf, lists, entryOk, test4, starOk, test5, test6, sizesPass, Size, Sizes, SizedJob, oneCell}
+use Rattle.floor.specs.Jobs.{sizeOf, sizeOk, test17}
 use Rattle.floor.specs.Jobs.Stars.{entry, GoodStar, good-of, of-good, mem-most}
 
 -- rooms and vertices
@@ -172,29 +173,30 @@ pub passes-labelling : (j : Job) → Passes j → Labelling j
 passes-labelling j k = let (a, b, c) = of-passes j k in record { pass4 = a; pass5 = b; pass6 = c }
 
 -- TESTS 3 TO 6 PASSED, one after the other
-pub passing-true : (b : Bool) (k : ℕ) (r : Reading) → b ≡ true → passing b k r ≡ r
+pub passing-true : {A : Type 0} (b : Bool) (k : ℕ) (r : Reading A) → b ≡ true → passing b k r ≡ r
 unfolding passing
-passing-true b k r e = rw e
+passing-true {A} b k r e = rw e
 
 -- where a job comes out behind a test, the test was passed, and what follows the test gave that job
-pub passing-reads : (b : Bool) (k : ℕ) (r : Reading) (j : Job) → passing b k r ≡ reads j → (b ≡ true) × (r ≡ reads j)
+pub passing-reads : {A : Type 0} (b : Bool) (k : ℕ) (r : Reading A) (j : A) → passing b k r ≡ reads j → (b ≡ true) × (r ≡ reads j)
 unfolding passing
-passing-reads true k r j e = (refl, e)
-passing-reads false k r j e = let z : _≡_ {A = ℕ} 0 1 = cc in absurd (omega arith)
+passing-reads {A} true k r j e = (refl, e)
+passing-reads {A} false k r j e = let z : _≡_ {A = ℕ} 0 1 = cc in absurd (omega arith)
 
 -- a job that comes out of tests 3 to 6 was read, and passed each of them
-pub six-passed : (r : Reading) (j : Job) → firstSix r ≡ reads j → SixPassed r j
+pub six-passed : (r : Reading SizedJob) (o : SizedJob) → firstSix r ≡ reads o → SixPassed r o
 unfolding firstSix
-six-passed (fails k) j e = let z : _≡_ {A = ℕ} 0 1 = cc in absurd (omega arith)
-six-passed (reads i) j e =
-    let (t3, e4) = passing-reads (test3 i) 3 _ j e in
-    let (t4, e5) = passing-reads (test4 i) 4 _ j e4 in
-    let (t5, e6) = passing-reads (test5 i) 5 _ j e5 in
-    let (t6, q) = passing-reads (test6 i) 6 _ j e6 in
+six-passed (fails k) o e = let z : _≡_ {A = ℕ} 0 1 = cc in absurd (omega arith)
+six-passed (reads i) o e =
+    let (t3, e4) = passing-reads (test3 (i .stars)) 3 _ o e in
+    let (t4, e5) = passing-reads (test4 (i .stars)) 4 _ o e4 in
+    let (t5, e6) = passing-reads (test5 (i .stars)) 5 _ o e5 in
+    let (t6, q) = passing-reads (test6 (i .stars)) 6 _ o e6 in
     go i q t3 t4 t5 t6
   where
-    go : (i : Job) → reads i ≡ reads j → test3 i ≡ true → test4 i ≡ true → test5 i ≡ true → test6 i ≡ true → SixPassed (reads i) j
-    go i q t3 t4 t5 t6 = let x : i ≡ j = cc in rw x (record {
+    go : (i : SizedJob) → reads i ≡ reads o → test3 (i .stars) ≡ true → test4 (i .stars) ≡ true → test5 (i .stars) ≡ true → test6 (i .stars) ≡ true
+        → SixPassed (reads i) o
+    go i q t3 t4 t5 t6 = let x : i ≡ o = cc in rw x (record {
       reading = refl;
       pass3 = rw x at t3;
       pass4 = rw x at t4;
@@ -203,6 +205,60 @@ six-passed (reads i) j e =
     })
 
 -- a job that was read, and that passes each of tests 3 to 6, comes out of them
-pub passed-six : (r : Reading) (j : Job) → SixPassed r j → firstSix r ≡ reads j
+pub passed-six : (r : Reading SizedJob) (o : SizedJob) → SixPassed r o → firstSix r ≡ reads o
 unfolding firstSix passing
-passed-six r j s = rw (s .reading, s .pass3, s .pass4, s .pass5, s .pass6)
+passed-six r o s = rw (s .reading, s .pass3, s .pass4, s .pass5, s .pass6)
+
+-- TEST 17 PASSED
+pub sizes-passed : (r : Reading SizedJob) (o : SizedJob) → sizesPass r ≡ reads o → (r ≡ reads o) × (test17 (o .sizes) ≡ true)
+unfolding sizesPass
+sizes-passed (fails k) o e = let z : _≡_ {A = ℕ} 0 1 = cc in absurd (omega arith)
+sizes-passed (reads i) o e = let (t, q) = passing-reads (test17 (i .sizes)) 17 _ o e in (q, go i q t)
+  where
+    go : (i : SizedJob) → reads i ≡ reads o → test17 (i .sizes) ≡ true → test17 (o .sizes) ≡ true
+    go i q t = let x : i ≡ o = cc in rw x at t
+
+-- a job that was read, and that passes test 17, comes out of it
+pub passed-sizes : (r : Reading SizedJob) (o : SizedJob) → r ≡ reads o → test17 (o .sizes) ≡ true → sizesPass r ≡ reads o
+unfolding sizesPass passing
+passed-sizes r o e t = rw (e, t)
+
+-- a least size of 1 to 15, either way
+pub record Fair (s : Size) : Type 0 where
+  pub some-width : 1 ≤ s .wide
+  pub most-width : s .wide ≤ 15
+  pub some-height : 1 ≤ s .tall
+  pub most-height : s .tall ≤ 15
+
+-- a size that passes the test of one size
+fair-of : (s : Size) → sizeOk s ≡ true → Fair s
+unfolding sizeOk
+fair-of s h =
+    let (abc, d) = and-parts _ (leb (s .tall) 15) h in
+    let (ab, c) = and-parts _ (leb 1 (s .tall)) abc in
+    let (a, b) = and-parts (leb 1 (s .wide)) (leb (s .wide) 15) ab in
+    record {
+      some-width = leb-true 1 (s .wide) a;
+      most-width = leb-true (s .wide) 15 b;
+      some-height = leb-true 1 (s .tall) c;
+      most-height = leb-true (s .tall) 15 d;
+    }
+
+-- WHAT TEST 17 SAYS of every size told,
+pub sizes-fair : (z : Sizes) → test17 z ≡ true → (s : Size) → List·Memᴰ s z → Fair s
+unfolding test17
+sizes-fair (r ∷ z) h s m = fair-of s (all-mem sizeOk (r ∷ z) (and-left (all sizeOk (r ∷ z)) _ h) s m)
+
+-- and of every room's
+pub room-fair : (z : Sizes) → test17 z ≡ true → (v : ℕ) → Fair (sizeOf z v)
+unfolding sizeOf
+room-fair z h v = go (decLt (v - 4) (length z))
+  where
+    go : Dec (v - 4 < length z) → Fair (getD z (v - 4) oneCell)
+    go (yes l) = sizes-fair z h (getD z (v - 4) oneCell) (mem-getD z (v - 4) oneCell l)
+    go (no l) = rw (List·getD-eq-default z oneCell {n = v - 4} (omega arith)) (record {
+      some-width = omega arith;
+      most-width = omega arith;
+      some-height = omega arith;
+      most-height = omega arith;
+    })

@@ -9,7 +9,7 @@ use lib.ListN.{length, getD}
 use native.Mathlib.Omega.{arith}
 use Rattle.floor.specs.Fields.{Field, field, readField, valueOf, restOf, afterFields}
 use Rattle.floor.specs.Fields.Laws.{Whole, whole-field}
-use Rattle.floor.specs.Jobs.{Job, Room, isRoom, starOf, entries, readStars, fails, reads, readJob, rawFrom, rawStar, starBytes}
+use Rattle.floor.specs.Jobs.{Job, Room, isRoom, starOf, entries, readStars, fails, reads, readJob, rawFrom, rawStar, starBytes, SizedJob}
 use Rattle.floor.specs.Jobs.Facts.{is-room, room-is, star-room}
 use Rattle.floor.specs.Jobs.Written.{bytes-entries, Split, split, Counted, counted, read-length}
 
@@ -56,18 +56,19 @@ raw-stars (suc n) bs j (suc i) e l =
     two v rest more ef ej below = let (x, s) = rw ef at below in rw (ef, ej) (x, rest-stretch (whole-field bs 2 v rest ef) s)
 
 -- THE VERY BYTES of the field's value
-pub raw-star : (bs : List ℕ) (j : Job) (v : ℕ) → readJob bs ≡ reads j → Room j v → (rawStar bs v ≡ starBytes (starOf j v)) × Stretch (rawStar bs v) bs
+pub raw-star : (bs : List ℕ) (o : SizedJob) (v : ℕ) → readJob bs ≡ reads o → Room (o .stars) v
+    → (rawStar bs v ≡ starBytes (starOf (o .stars) v)) × Stretch (rawStar bs v) bs
 unfolding rawStar rawFrom readJob afterFields restOf
-raw-star bs j v e r = let k : Counted (readField bs) j = counted (readField bs) j e in one (k .count) (k .rest) (k .is-field) (k .is-stars)
+raw-star bs o v e r = let k : Counted (readField bs) o = counted (readField bs) o e in one (k .count) (k .rest) (k .is-field) (k .is-stars)
   where
-    one : (n : ℕ) (rest : List ℕ) → readField bs ≡ field 1 (n ∷ []) rest → readStars n rest ≡ some j
-        → (rawFrom (readJob bs) bs v ≡ starBytes (starOf j v)) × Stretch (rawFrom (readJob bs) bs v) bs
+    one : (n : ℕ) (rest : List ℕ) → readField bs ≡ field 1 (n ∷ []) rest → readStars n rest ≡ some (o .stars)
+        → (rawFrom (readJob bs) bs v ≡ starBytes (starOf (o .stars) v)) × Stretch (rawFrom (readJob bs) bs v) bs
     one n rest ef es =
-        let (x, s) = raw-stars n rest j (v - 4) es (omega (arith, r .0, r .1, read-length n rest j es)) in
+        let (x, s) = raw-stars n rest (o .stars) (v - 4) es (omega (arith, r .0, r .1, read-length n rest (o .stars) es)) in
         let q : v - 3 ≡ suc (v - 4) = omega (arith, r .0) in
         let b : afterFields (v - 3) bs ≡ afterFields (v - 4) rest = ap (λ (n : ℕ). afterFields n bs) q ∙ ap (λ (f : Field). afterFields (v - 4)
         (restOf f)) ef in
-        rw (e, room-is j v r, b, star-room j v (r .0)) (x, rest-stretch (whole-field bs 1 (n ∷ []) rest ef) s)
+        rw (e, room-is (o .stars) v r, b, star-room (o .stars) v (r .0)) (x, rest-stretch (whole-field bs 1 (n ∷ []) rest ef) s)
 
 -- and empty otherwise
 pub raw-fails : (bs : List ℕ) (k v : ℕ) → readJob bs ≡ fails k → rawStar bs v ≡ []
@@ -75,10 +76,10 @@ unfolding rawStar rawFrom
 raw-fails bs k v e = rw e
 
 -- empty where the number is no room of the job
-pub raw-no-room : (bs : List ℕ) (j : Job) (v : ℕ) → readJob bs ≡ reads j → (Room j v → ⊥) → rawStar bs v ≡ []
+pub raw-no-room : (bs : List ℕ) (o : SizedJob) (v : ℕ) → readJob bs ≡ reads o → (Room (o .stars) v → ⊥) → rawStar bs v ≡ []
 unfolding rawStar rawFrom
-raw-no-room bs j v e h = go (isRoom j v) refl
+raw-no-room bs o v e h = go (isRoom (o .stars) v) refl
   where
-    go : (c : Bool) → isRoom j v ≡ c → rawFrom (readJob bs) bs v ≡ []
+    go : (c : Bool) → isRoom (o .stars) v ≡ c → rawFrom (readJob bs) bs v ≡ []
     go false q = rw (e, q)
-    go true q = absurd (h (is-room j v q))
+    go true q = absurd (h (is-room (o .stars) v q))

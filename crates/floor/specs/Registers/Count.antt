@@ -15,11 +15,11 @@ use Rattle.floor.specs.Lists.Laws.{no-false, and-parts, and-both, bit, c
 use Rattle.floor.specs.Lists.Laws.{length-upFrom}
 use Rattle.floor.specs.Jobs.{Job, rooms}
 use Rattle.floor.specs.Jobs.Facts.{Passes}
-use Rattle.floor.specs.Walls.{Rule, rules}
+use Rattle.floor.specs.Walls.{Rule}
 use Rattle.floor.specs.Plans.{Plan, rectOf}
 use Rattle.floor.specs.Floor.{Complete, GoodPlan}
 use Rattle.floor.specs.Floor.Inner.{Thin}
-use Rattle.floor.specs.Registers.{Stretch, lowSide, highSide, wideOf, longOf, Partition, earlier, axisOf, roomSides, built, starts, endFrom, partition}
+use Rattle.floor.specs.Registers.{joins, Stretch, lowSide, highSide, wideOf, longOf, Partition, earlier, roomSides, built, starts, endFrom, partition}
 use Rattle.floor.specs.Registers.{registerOf, register}
 use Rattle.floor.specs.Registers.Runs.{View, In, Seen, Edge, Both, both-of, high-edge, low-edge, Run}
 use Rattle.floor.specs.Registers.Floors.{viewOf}
@@ -52,14 +52,14 @@ row-both : (u v : ℕ) → ltb u v ≡ true → ltb v u ≡ true → ⊥
 row-both u v a b = omega (arith, ltb-true u v a, ltb-true v u b)
 
 -- ONE DIRECTION
-module _ (d : ℕ) (j : Job) (some-room : 0 < length j) (p : Plan) (cm : Complete j p) (f : Seen (viewOf (length j + 4) d p) (rules (axisOf d) j)) where
+module _ (d : ℕ) (j : Job) (some-room : 0 < length j) (p : Plan) (cm : Complete j p) (f : Seen (viewOf (length j + 4) d p) (joins d j)) where
   -- the plan seen in direction d
   abbrev w : View
   w = viewOf (length j + 4) d p
 
-  -- the job's rules in direction d
+  -- the rules that join walls in direction d
   abbrev E : List Rule
-  E = rules (axisOf d) j
+  E = joins d j
 
   -- the sides of the rooms in direction d
   abbrev S : List Stretch
@@ -426,7 +426,7 @@ module _ (w z : View) (D E : List Rule) (f : Seen w D) (g : Seen z E) (k : Cross
                   five (inr x) = omega (arith, n .left, f .three)
 
 -- a wall begins at a room's low corner, unless it goes on beyond
-module _ (d : ℕ) (j : Job) (some-room : 0 < length j) (p : Plan) (cm : Complete j p) (f : Seen (viewOf (length j + 4) d p) (rules (axisOf d) j)) where
+module _ (d : ℕ) (j : Job) (some-room : 0 < length j) (p : Plan) (cm : Complete j p) (f : Seen (viewOf (length j + 4) d p) (joins d j)) where
   -- the line of v's low side
   abbrev view-lo : ℕ → ℕ
   view-lo v = lowSide d (rectOf p v) .line
@@ -462,12 +462,12 @@ module _ (j : Job) (ok : Passes j) (some-room : 0 < length j) (p : Plan) (gp : G
   abbrev levels : View
   levels = viewOf (length j + 4) 1 p
 
-  -- the plan is seen upright, with the job's upright rules
-  f : Seen uprights (rules (axisOf 0) j)
+  -- the plan is seen upright, with the rules that join upright walls
+  f : Seen uprights (joins 0 j)
   f = upright-seen j ok some-room p gp thin
 
-  -- the plan is seen level, with the job's level rules
-  g : Seen levels (rules (axisOf 1) j)
+  -- the plan is seen level, with the rules that join level walls
+  g : Seen levels (joins 1 j)
   g = level-seen j ok some-room p gp thin
 
   -- what is across upright is along level, and what is along upright is across level
@@ -511,16 +511,16 @@ module _ (j : Job) (ok : Passes j) (some-room : 0 < length j) (p : Plan) (gp : G
       rw (starts-low 0 j some-room p (gp .floor .complete) f v (r .0) (r .1), starts-low 1 j some-room p (gp .floor .complete) g v (r .0) (r .1))
       (go (goes-down v) refl (goes-left v) refl)
     where
-      down : goes-down v ≡ true → Edge uprights (rules (axisOf 0) j) f (uprights .lo v) (uprights .start v - 1)
+      down : goes-down v ≡ true → Edge uprights (joins 0 j) f (uprights .lo v) (uprights .start v - 1)
       down e = built-edge 0 j p (gp .floor .complete) f (uprights .lo v) (uprights .start v - 1) e
 
-      left : goes-left v ≡ true → Edge levels (rules (axisOf 1) j) g (levels .lo v) (levels .start v - 1)
+      left : goes-left v ≡ true → Edge levels (joins 1 j) g (levels .lo v) (levels .start v - 1)
       left e = built-edge 1 j p (gp .floor .complete) g (levels .lo v) (levels .start v - 1) e
 
-      no-down : goes-down v ≡ false → Edge uprights (rules (axisOf 0) j) f (uprights .lo v) (uprights .start v - 1) → ⊥
+      no-down : goes-down v ≡ false → Edge uprights (joins 0 j) f (uprights .lo v) (uprights .start v - 1) → ⊥
       no-down e k = no-false (sym e ∙ edge-built 0 j p (gp .floor .complete) f (uprights .lo v) (uprights .start v - 1) k)
 
-      no-left : goes-left v ≡ false → Edge levels (rules (axisOf 1) j) g (levels .lo v) (levels .start v - 1) → ⊥
+      no-left : goes-left v ≡ false → Edge levels (joins 1 j) g (levels .lo v) (levels .start v - 1) → ⊥
       no-left e k = no-false (sym e ∙ edge-built 1 j p (gp .floor .complete) g (levels .lo v) (levels .start v - 1) k)
 
       not-corner : ((uprights .lo v ≡ 1) × (uprights .start v ≡ 1) → ⊥) → inCorner v ≡ false
@@ -531,20 +531,20 @@ module _ (j : Job) (ok : Passes j) (some-room : 0 < length j) (p : Plan) (gp : G
           two false e = e
 
       go : (a : Bool) → goes-down v ≡ a → (b : Bool) → goes-left v ≡ b → bit (not (goes-down v)) + bit (not (goes-left v)) ≡ 1 + bit (inCorner v)
-      go true e true h = absurd (not-both uprights levels (rules (axisOf 0) j) (rules (axisOf 1) j) f g forth v (r .0) (r .1) (down e) (cross (left h)))
+      go true e true h = absurd (not-both uprights levels (joins 0 j) (joins 1 j) f g forth v (r .0) (r .1) (down e) (cross (left h)))
         where
-          cross : Edge levels (rules (axisOf 1) j) g (levels .lo v) (levels .start v - 1)
-              → Edge levels (rules (axisOf 1) j) g (uprights .start v) (uprights .lo v - 1)
+          cross : Edge levels (joins 1 j) g (levels .lo v) (levels .start v - 1)
+              → Edge levels (joins 1 j) g (uprights .start v) (uprights .lo v - 1)
           cross k = rw (forth .lo v, forth .start v) at k
       go true e false h =
           omega (arith, ap (λ b. bit (not b)) e, ap (λ b. bit (not b)) h, ap bit (not-corner (λ c. first (down e) c)))
         where
-          first : Edge uprights (rules (axisOf 0) j) f (uprights .lo v) (uprights .start v - 1) → (uprights .lo v ≡ 1) × (uprights .start v ≡ 1) → ⊥
+          first : Edge uprights (joins 0 j) f (uprights .lo v) (uprights .start v - 1) → (uprights .lo v ≡ 1) × (uprights .start v ≡ 1) → ⊥
           first k c = omega (arith, k .unit .lower, c .1, f .room-along (k .one) (k .is-room) (k .known) .0)
       go false e true h =
           omega (arith, ap (λ b. bit (not b)) e, ap (λ b. bit (not b)) h, ap bit (not-corner (λ c. first (left h) c)))
         where
-          first : Edge levels (rules (axisOf 1) j) g (levels .lo v) (levels .start v - 1) → (uprights .lo v ≡ 1) × (uprights .start v ≡ 1) → ⊥
+          first : Edge levels (joins 1 j) g (levels .lo v) (levels .start v - 1) → (uprights .lo v ≡ 1) × (uprights .start v ≡ 1) → ⊥
           first k c = omega (arith, k .unit .lower, c .0, forth .start v, g .room-along (k .one) (k .is-room) (k .known) .0)
       go false e false h =
           omega (arith, ap (λ b. bit (not b)) e, ap (λ b. bit (not b)) h, ap bit (is-corner v lo-one start-one))
@@ -555,7 +555,7 @@ module _ (j : Job) (ok : Passes j) (some-room : 0 < length j) (p : Plan) (gp : G
               two : Dec (1 < uprights .start v) → uprights .start v ≡ 1
               two (no k) = omega (arith, f .room-along v (r .0) (r .1) .0)
               two (yes k) =
-                  absurd (not-neither uprights levels (rules (axisOf 0) j) (rules (axisOf 1) j) f g forth v (r .0) (r .1) k (no-down e)
+                  absurd (not-neither uprights levels (joins 0 j) (joins 1 j) f g forth v (r .0) (r .1) k (no-down e)
                   (λ x. no-left h (rw (forth .lo v, forth .start v) x)))
 
           lo-one : uprights .lo v ≡ 1
@@ -564,7 +564,7 @@ module _ (j : Job) (ok : Passes j) (some-room : 0 < length j) (p : Plan) (gp : G
               two : Dec (1 < uprights .lo v) → uprights .lo v ≡ 1
               two (no k) = omega (arith, f .room-across v (r .0) (r .1) .0)
               two (yes k) =
-                  absurd (not-neither levels uprights (rules (axisOf 1) j) (rules (axisOf 0) j) g f back v (r .0) (r .1)
+                  absurd (not-neither levels uprights (joins 1 j) (joins 0 j) g f back v (r .0) (r .1)
                   (omega (arith, forth .start v)) (no-left h)
                   (λ x. no-down e (rw (back .lo v, back .start v) x)))
 

@@ -11,10 +11,9 @@ use Rattle.floor.specs.Lists.{keep, pairwise, upFrom}
 use Rattle.floor.specs.Lists.Laws.{no-false, and-parts, and-both, any-count, count, count-none, none-count}
 use Rattle.floor.specs.Jobs.{Job}
 use Rattle.floor.specs.Jobs.Facts.{Passes}
-use Rattle.floor.specs.Walls.{rules}
 use Rattle.floor.specs.Plans.{Plan}
 use Rattle.floor.specs.Floor.{GoodPlan}
-use Rattle.floor.specs.Registers.{Stretch, wideOf, longOf, axisOf, roomSides, built, starts, endFrom, between, partition, wallsOn, wallsOf, registerOf}
+use Rattle.floor.specs.Registers.{joins, Stretch, wideOf, longOf, roomSides, built, starts, endFrom, between, partition, wallsOn, wallsOf, registerOf}
 use Rattle.floor.specs.Registers.{register}
 use Rattle.floor.specs.Registers.Runs.{Seen}
 use Rattle.floor.specs.Floor.Inner.{Thin}
@@ -103,14 +102,14 @@ rearranged-fit long wide S M e f s m =
 -- THE REGISTER OF A HELD PLAN: its room sides in order, merged
 module _ (j : Job) (ok : Passes j) (some-room : 0 < length j) (p : Plan) (gp : GoodPlan j p) (thin : Thin p) where
   -- every room side of the plan lies on its sheet
-  side-fit : (d : ℕ) → Seen (viewOf (length j + 4) d p) (rules (axisOf d) j) → (s : Stretch) → List·Memᴰ s (roomSides d p) → Fit (longOf d p) (wideOf d p) s
+  side-fit : (d : ℕ) → Seen (viewOf (length j + 4) d p) (joins d j) → (s : Stretch) → List·Memᴰ s (roomSides d p) → Fit (longOf d p) (wideOf d p) s
   side-fit d f s m =
       let (n, l) = side-lies d j p (gp .floor .complete) f s m in
       let (a1, a2, a3, a4, a5) = lies-inside d j p (gp .floor .complete) f n s l in
       record { some = a4; in-long = omega arith; in-wide = a2 }
 
   -- the room sides of one direction, in whatever order by line and beginning, merged, are its register
-  merged-is : (d : ℕ) → Seen (viewOf (length j + 4) d p) (rules (axisOf d) j) → (M : List Stretch) → Rearranged (roomSides d p) M
+  merged-is : (d : ℕ) → Seen (viewOf (length j + 4) d p) (joins d j) → (M : List Stretch) → Rearranged (roomSides d p) M
       → pairwise inLine M ≡ true → merged d M ≡ registerOf d p
   unfolding registerOf
   merged-is d f M e o =

@@ -7,7 +7,7 @@ use native.Mathlib.Omega.{arith}
 use lib.ListN.{length, getD}
 use Rattle.floor.specs.Jobs.{Entry, Job, Vertex, Room}
 use Rattle.floor.specs.Jobs.Facts.{Passes, star-at}
-use Rattle.floor.specs.Walls.{Rule, same, before, low, high, rules, at}
+use Rattle.floor.specs.Walls.{Rule, same, before, low, high, at, extra}
 use Rattle.floor.specs.Walls.Rules.{Told, Asks, told-every, every-told}
 use Rattle.floor.specs.Plans.{Plan, rectOf}
 use Rattle.floor.specs.Floor.{Point, Wall, Stands, Floor, Framed, GoodPlan}
@@ -16,7 +16,7 @@ use Rattle.floor.specs.Floor.Read.{num, number, piece, number-piece, few
 use Rattle.floor.specs.Floor.Placed.{placeOf, stands-meets}
 use Rattle.floor.specs.Floor.Bridge.{covered, once, plan-good}
 use Rattle.floor.specs.Floor.Inner.{Thin, Inner, inner-room}
-use Rattle.floor.specs.Registers.{lowSide, highSide, wideOf, longOf, axisOf}
+use Rattle.floor.specs.Registers.{joins, lowSide, highSide, wideOf, longOf, axisOf}
 use Rattle.floor.specs.Registers.Runs.{View, Along, On, Ruled, Seen}
 
 -- a plan of so many vertices, seen in one direction
@@ -42,15 +42,15 @@ module _ (j : Job) (ok : Passes j) (some-room : 0 < length j) (p : Plan) (gp : G
 
   -- A CONTACT IS A RULE, where one of the two is a room
   contact-rule : (d : ℕ) (k : Side) → axisOf d .far ≡ num k → axisOf d .near ≡ num (opp k) → (u v : Piece) → Known (starsOf j) u → Known (starsOf j) v
-      → (4 ≤ number u) ⊎ (4 ≤ number v) → Contact (starsOf j) k u v → List·Memᴰ (same (high (number u)) (low (number v))) (rules (axisOf d) j)
+      → (4 ≤ number u) ⊎ (4 ≤ number v) → Contact (starsOf j) k u v → List·Memᴰ (same (high (number u)) (low (number v))) (joins d j)
   unfolding starsOf
   contact-rule d k ef en u v hu hv one m = go u v hu hv one m
     where
-      told : Told (λ r. List·Memᴰ r (rules (axisOf d) j)) (axisOf d) 4 j
-      told = every-told (λ r. List·Memᴰ r (rules (axisOf d) j)) (axisOf d) 4 j (λ r m. m)
+      told : Told (λ r. List·Memᴰ r (joins d j)) (axisOf d) (extra (axisOf d) []) 4 j
+      told = every-told (λ r. List·Memᴰ r (joins d j)) (axisOf d) (extra (axisOf d) []) 4 j (λ r m. m)
 
       go : (u v : Piece) → Known (starsOf j) u → Known (starsOf j) v → (4 ≤ number u) ⊎ (4 ≤ number v) → Contact (starsOf j) k u v
-          → List·Memᴰ (same (high (number u)) (low (number v))) (rules (axisOf d) j)
+          → List·Memᴰ (same (high (number u)) (low (number v))) (joins d j)
       go (room i) v hu hv one m =
           let (e, me, ke, te) = mem-entry v (getD j i []) (num k) m in
           rw (← te) (told .each i hu e me .if-far (ke ∙ sym ef))
@@ -58,15 +58,15 @@ module _ (j : Job) (ok : Passes j) (some-room : 0 < length j) (p : Plan) (gp : G
           let (e, me, ke, te) = mem-entry (side t) (getD j r []) (num (opp k)) m in
           near e te (told .each r hv e me .if-near (ke ∙ sym en))
         where
-          near : (e : Entry) → e .to ≡ num t → List·Memᴰ (same (high (e .to)) (low (4 + r))) (rules (axisOf d) j)
-              → List·Memᴰ (same (high (num t)) (low (4 + r))) (rules (axisOf d) j)
+          near : (e : Entry) → e .to ≡ num t → List·Memᴰ (same (high (e .to)) (low (4 + r))) (joins d j)
+              → List·Memᴰ (same (high (num t)) (low (4 + r))) (joins d j)
           near e te x = rw te at x
       go (side t) (side r) hu hv (inl l) m = absurd (omega (arith, few-sides t))
       go (side t) (side r) hu hv (inr l) m = absurd (omega (arith, few-sides r))
 
   -- where v stands right of u (direction 0) or above it (1), and one of them is a room, a rule joins u's high side and v's low side
   stands-rule : (d : ℕ) (k : Side) → axisOf d .far ≡ num k → axisOf d .near ≡ num (opp k) → (u v : ℕ) → Vertex j u → Vertex j v → (4 ≤ u) ⊎ (4 ≤ v)
-      → Stands (num k) (rectOf p u) (rectOf p v) → List·Memᴰ (same (high u) (low v)) (rules (axisOf d) j)
+      → Stands (num k) (rectOf p u) (rectOf p v) → List·Memᴰ (same (high u) (low v)) (joins d j)
   stands-rule d k ef en u v hu hv one s =
       let g : Good (starsOf j) (placeOf p) = plan-good j ok p gp in
       let m : Meets (placeOf p) k (piece u) (piece v) = stands-meets j p (gp .inside) k (piece u) (piece v) (known-piece j u hu) (known-piece j v hv)
@@ -92,8 +92,9 @@ module _ (j : Job) (ok : Passes j) (some-room : 0 < length j) (p : Plan) (gp : G
   ruled-of : (d : ℕ) (k : Side) → axisOf d .far ≡ num k → axisOf d .near ≡ num (opp k)
       → ((u v : ℕ) → Stands (num k) (rectOf p u) (rectOf p v) → Walled d u v) → ((u v : ℕ) → Stands (num (opp k)) (rectOf p u) (rectOf p v) → Walled d v u)
       → ((v : ℕ) → Room j v → (1 ≤ view d .start v) × (view d .stop v < view d .long))
-      → (s t : ℕ) → List·Memᴰ (same s t) (rules (axisOf d) j) → Ruled (view d) s t
-  ruled-of d k ef en ahead behind inside s t m = told-every (Joint d) (axisOf d) 4 j (record { own = λ i h. tt; each = each }) (same s t) m
+      → (s t : ℕ) → List·Memᴰ (same s t) (joins d j) → Ruled (view d) s t
+  ruled-of d k ef en ahead behind inside s t m =
+      told-every (Joint d) (axisOf d) (extra (axisOf d) []) 4 j (record { own = λ i h. tt; each = each }) (same s t) m
     where
       each : (i : ℕ) → i < length j → (e : Entry) → List·Memᴰ e (getD j i []) → Asks (Joint d) (axisOf d) (4 + i) e
       each i h e n = record { if-far = far; if-near = near; if-cross = λ q l. (tt, tt) }
@@ -134,7 +135,7 @@ module _ (j : Job) (ok : Passes j) (some-room : 0 < length j) (p : Plan) (gp : G
               joint (e .to) (4 + i) (entry-ok j ok i h e n .below) (r .1) w (omega (arith, w .starts′, z .0), omega (arith, w .ends′, z .1))
 
   -- UPRIGHT
-  pub seen-upright : Seen (view 0) (rules (axisOf 0) j)
+  pub seen-upright : Seen (view 0) (joins 0 j)
   unfolding lowSide highSide wideOf longOf
   seen-upright = record {
     across = λ v h. (gp .inside v h .wide, gp .inside v h .in-width);
@@ -165,7 +166,7 @@ module _ (j : Job) (ok : Passes j) (some-room : 0 < length j) (p : Plan) (gp : G
       frame (suc (suc (suc (suc v)))) h c a l k = absurd (omega arith)
 
   -- LEVEL
-  pub seen-level : Seen (view 1) (rules (axisOf 1) j)
+  pub seen-level : Seen (view 1) (joins 1 j)
   unfolding lowSide highSide wideOf longOf
   seen-level = record {
     across = λ v h. (gp .inside v h .tall, gp .inside v h .in-height);

@@ -15,11 +15,11 @@ use Rattle.floor.specs.Lists.Laws.{no-false, and-parts, and-both, or-cas
 use Rattle.floor.specs.Lists.Laws.{mem-any, keep-mem, mem-keep, map-mem, mem-map, upFrom-mem, mem-upFrom, pairwise-append}
 use Rattle.floor.specs.Jobs.{Job, Room, rooms}
 use Rattle.floor.specs.Jobs.Facts.{Passes}
-use Rattle.floor.specs.Walls.{Rule, OnWall, here, low, high, rules}
+use Rattle.floor.specs.Walls.{Rule, OnWall, here, low, high}
 use Rattle.floor.specs.Plans.{Rect, Plan, nowhere, rectOf}
 use Rattle.floor.specs.Floor.{Complete, GoodPlan}
-use Rattle.floor.specs.Registers.{Stretch, lowSide, highSide, wideOf, longOf, Partition, earlier, axisOf, Lies, as-low, as-high, sidesFrom, WallOf}
-use Rattle.floor.specs.Registers.{Register, sidesIn, roomSides, built, starts, endFrom, between, partition, wallsOn, wallsOf, registerOf, register}
+use Rattle.floor.specs.Registers.{Stretch, lowSide, highSide, wideOf, longOf, Partition, earlier, Lies, as-low, as-high, sidesFrom, WallOf, Register}
+use Rattle.floor.specs.Registers.{sidesIn, roomSides, built, starts, endFrom, between, partition, wallsOn, wallsOf, registerOf, register, joins}
 use Rattle.floor.specs.Registers.Runs.{View, Seen, Edge, Run, Sided, low-sided, high-sided, run-joins, InRun, run-keeps, Held}
 use Rattle.floor.specs.Registers.Lines.{covers, covers-of, of-covers, between-of, of-between, end-least, built-to, starts-of, begin-of}
 use Rattle.floor.specs.Floor.Inner.{Thin}
@@ -169,14 +169,14 @@ module _ (d : ℕ) (S : List Stretch) (long : ℕ) where
           rw (e, g) (unfold partition in earlier-number (partition d S long u b) (partition d S long x c) refl (omega (arith, mem-upFrom (suc u) n x q .0)))
 
 -- ONE DIRECTION
-module _ (d : ℕ) (j : Job) (p : Plan) (cm : Complete j p) (f : Seen (viewOf (length j + 4) d p) (rules (axisOf d) j)) where
+module _ (d : ℕ) (j : Job) (p : Plan) (cm : Complete j p) (f : Seen (viewOf (length j + 4) d p) (joins d j)) where
   -- the plan seen in direction d
   abbrev w : View
   w = viewOf (length j + 4) d p
 
-  -- the job's rules in direction d
+  -- the rules that join walls in direction d
   abbrev E : List Rule
-  E = rules (axisOf d) j
+  E = joins d j
 
   -- the sides of the rooms in direction d
   abbrev S : List Stretch
@@ -541,12 +541,12 @@ module _ (j : Job) (ok : Passes j) (some-room : 0 < length j) (p : Plan) (gp : G
   pub complete : Complete j p
   complete = gp .floor .complete
 
-  -- the plan is seen upright, with the job's upright rules
-  pub upright-seen : Seen (viewOf (length j + 4) 0 p) (rules (axisOf 0) j)
+  -- the plan is seen upright, with the rules that join upright walls
+  pub upright-seen : Seen (viewOf (length j + 4) 0 p) (joins 0 j)
   upright-seen = seen-upright j ok some-room p gp thin
 
-  -- the plan is seen level, with the job's level rules
-  pub level-seen : Seen (viewOf (length j + 4) 1 p) (rules (axisOf 1) j)
+  -- the plan is seen level, with the rules that join level walls
+  pub level-seen : Seen (viewOf (length j + 4) 1 p) (joins 1 j)
   level-seen = seen-level j ok some-room p gp thin
 
   -- what is known of an entry for direction d is known for the direction it names

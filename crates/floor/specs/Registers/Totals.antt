@@ -9,11 +9,11 @@ use Rattle.floor.specs.Lists.{all, pairwise, sum, upFrom}
 use Rattle.floor.specs.Lists.Laws.{no-false, and-parts, bit, count, count-nil, count-cons, none-count, mem-count, all-mem}
 use Rattle.floor.specs.Jobs.{Job}
 use Rattle.floor.specs.Jobs.Facts.{Passes}
-use Rattle.floor.specs.Walls.{here, rules}
+use Rattle.floor.specs.Walls.{here}
 use Rattle.floor.specs.Plans.{Rect, Plan}
 use Rattle.floor.specs.Floor.{Complete, GoodPlan}
-use Rattle.floor.specs.Registers.{Stretch, wideOf, longOf, Partition, earlier, axisOf, Lies, WallOf, sidesIn, roomSides, starts, between, partition}
-use Rattle.floor.specs.Registers.{registerOf, register}
+use Rattle.floor.specs.Registers.{Stretch, wideOf, longOf, Partition, earlier, Lies, WallOf, sidesIn, roomSides, starts, between, partition, registerOf}
+use Rattle.floor.specs.Registers.{register, joins}
 use Rattle.floor.specs.Registers.Runs.{Seen}
 use Rattle.floor.specs.Floor.Inner.{Thin}
 use Rattle.floor.specs.Registers.Floors.{viewOf}
@@ -99,7 +99,7 @@ abbrev pub onIt : Partition → Stretch → Bool
 onIt w s = between (w .number) (w .begins) (w .ends) s
 
 -- ONE DIRECTION
-module _ (d : ℕ) (j : Job) (p : Plan) (cm : Complete j p) (f : Seen (viewOf (length j + 4) d p) (rules (axisOf d) j)) where
+module _ (d : ℕ) (j : Job) (p : Plan) (cm : Complete j p) (f : Seen (viewOf (length j + 4) d p) (joins d j)) where
   -- the sides of the rooms in direction d
   abbrev S : List Stretch
   S = roomSides d p

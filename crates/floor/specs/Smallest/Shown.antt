@@ -3,8 +3,8 @@ use Prim.Native.Nat.{ℕ, _≤_, _<_}
 use mathlib.Core.Path.{_≡_, refl}
 use mathlib.Core.List.{[], _∷_, List·Memᴰ·head, List·Memᴰ·tail}
 use native.Mathlib.Omega.{arith}
-use Rattle.floor.specs.Fields.{readField, restOf}
-use Rattle.floor.specs.Jobs.{Job, starOf, entries, reads, readJob, readFirst, readRooms, test2, readRest, readStars, starThen}
+use Rattle.floor.specs.Fields.{readField, restOf, afterFields}
+use Rattle.floor.specs.Jobs.{Job, starOf, entries, sizedJob, reads, readJob, readFirst, readRooms, test2, readRest, readStars, starThen, readSizes}
 use Rattle.floor.specs.Plans.{Plan, rectOf}
 use Rattle.floor.specs.Smallest.{Placing}
 use Rattle.floor.specs.Examples.{jobF}
@@ -19,8 +19,8 @@ starsF =
     ∷ []
 
 -- they are those of its bytes
-pub read-F : readJob jobF ≡ reads starsF
-unfolding readJob readFirst readField readRooms test2 readRest readStars starThen restOf jobF entries starsF
+pub read-F : readJob jobF ≡ reads (sizedJob starsF [])
+unfolding readJob readFirst readField readRooms test2 readRest readStars starThen restOf readSizes afterFields jobF entries starsF
 read-F = refl
 
 -- the four rooms two by two, on a sheet of 4 by 4: F's is 4 by 5
@@ -40,7 +40,7 @@ cornerF = record {
 }
 
 -- IT IS NO PLACING: 6 stands to the left of 5 by the job, and there they meet only at the point (2, 2)
-pub corner-is-none : Placing starsF cornerF → ⊥
+pub corner-is-none : Placing starsF [] cornerF → ⊥
 unfolding starOf rectOf entries starsF cornerF
 corner-is-none g =
     let w = g .met 5 (omega arith, omega arith) (record { to = 6; kind = 1 }) (List·Memᴰ·tail (List·Memᴰ·tail (List·Memᴰ·head refl))) in

@@ -1,19 +1,19 @@
 -- A turn of a good plan that gets past 11 and 12 is drawn: its turned labelling has its numbers, and the plan by them is good. Assumes nothing.
-use Prim.Native.Nat.{ℕ, _+_, _-_, _≤_}
+use Prim.Native.Nat.{ℕ, _+_, _-_, _≤_, _<_}
 use mathlib.Core.Path.{_≡_, refl, sym, ap, _∙_, subst, fun-ext}
 use mathlib.Core.Logic.{_⊎_, inl, inr}
 use mathlib.Core.Bool.{Bool, true, false, not}
 use mathlib.Core.List.{List, [], _∷_, _++_, map, List·Memᴰ}
-use lib.ListN.{getD}
+use lib.ListN.{getD, length}
 use native.Mathlib.Omega.{arith}
-use Rattle.floor.specs.Jobs.{Entry, Star, Job, Room, opposite, starOf}
+use Rattle.floor.specs.Jobs.{Entry, Star, Job, Room, opposite, starOf, Sizes}
 use Rattle.floor.specs.Jobs.Stars.{entry}
 use Rattle.floor.specs.Jobs.Facts.{Passes, star-at, star-room, labelling-passes}
 use Rattle.floor.specs.Walls.{Numbers, upright, level, rules, at}
 use Rattle.floor.specs.Walls.Walk.{unique}
 use Rattle.floor.specs.Walls.Rules.{Obeys, obeys-respects, numbered, numbers-are, to-vertex}
 use Rattle.floor.specs.Plans.{Plan, planOf, drawable}
-use Rattle.floor.specs.Floor.{GoodPlan}
+use Rattle.floor.specs.Floor.{GoodPlan, Roomy}
 use Rattle.floor.specs.Floor.Sides.{Side, up, left, down, right, next, opp, prev, Piece, side, room, Stars, Good, Tri}
 use Rattle.floor.specs.Floor.Whole.{local-good}
 use Rattle.floor.specs.Floor.Again.{good-tri, fits-local}
@@ -21,7 +21,7 @@ use Rattle.floor.specs.Floor.Read.{num, number, piece, piece-room, numbe
 use Rattle.floor.specs.Floor.Read.{entry-mem, lawful}
 use Rattle.floor.specs.Floor.Placed.{reach, placeOf}
 use Rattle.floor.specs.Floor.Bridge.{plan-good, good-plan}
-use Rattle.floor.specs.Floor.Ours.{plan-complete, plan-fits}
+use Rattle.floor.specs.Floor.Ours.{plan-complete, plan-fits, plan-roomy}
 use Rattle.floor.specs.Floor.Tested.{good-drawable}
 use Rattle.floor.specs.Floor.Elsewhere.{Ours}
 use Rattle.floor.specs.Turns.{turnedKind, turned, Kept, Turnable, turnedBy}
@@ -30,7 +30,8 @@ use Rattle.floor.specs.Turns.Ends.{Beyond}
 use Rattle.floor.specs.Turns.Turned.{Turn, Entered, new-a, new-b, old, turn-entered, turn-kept, turn-star-a, turn-star-b, turn-else, turn-keeps}
 use Rattle.floor.specs.Turns.Restore.{Past, past-at, turned-keeps}
 use Rattle.floor.specs.Turns.Shift.{transposed}
-use Rattle.floor.specs.Turns.Numbered.{viewOf, Both, Swings, back, ahead, swung-obeys, right-up, up-right, sees-right-up, sees-up-right}
+use Rattle.floor.specs.Turns.Numbered.{viewOf, Both, Swings, back, ahead, swung-obeys, right-up, up-right, sees-right-up, sees-up-right, fitted-right-up}
+use Rattle.floor.specs.Turns.Numbered.{fitted-up-right}
 use Rattle.floor.specs.Turns.Around.{turnTo, Moves, Turns, turned-tri}
 
 -- the kind that a contact of side k takes
@@ -193,11 +194,14 @@ module _ (j : Job) (ok : Passes j) (p : Plan) (gp : GoodPlan j p) (a b : ℕ) (k
       (T .last) k (a - 4) (b - 4) turns
 
   -- THE PLAN BY THE TURNED LABELLING'S NUMBERS IS GOOD, where numbers can be put
-  ours : (x y : ℕ → ℕ) → Obeys upright x i → Obeys level y i → Ours i
-  ours x y ox oy =
+  ours : (z : Sizes) (x y : ℕ → ℕ) → Obeys upright x i z → Obeys level y i z → Ours i z
+  ours z x y ox oy =
       let oki : Passes i = labelling-passes i (kept-job .labelling) in
-      let (f, ef) = numbered upright i (to-vertex i oki) x (obeys-respects upright x i ox) in
-      let (h, eh) = numbered level i (to-vertex i oki) y (obeys-respects level y i oy) in
+      let (f, ef) = numbered upright i z (to-vertex i oki) x (obeys-respects upright x i z ox) in
+      let (h, eh) = numbered level i z (to-vertex i oki) y (obeys-respects level y i z oy) in
+      let nf : Numbers (rules upright i z) (at f) = numbers-are upright i z (to-vertex i oki) f ef in
+      let nh : Numbers (rules level i z) (at h) = numbers-are level i z (to-vertex i oki) h eh in
+      let some-room : 0 < length i = omega (arith, kept-job .rooms, T .room-a .0, T .room-a .1) in
       record {
         xs = f;
         ys = h;
@@ -206,16 +210,17 @@ module _ (j : Job) (ok : Passes j) (p : Plan) (gp : GoodPlan j p) (a b : ℕ) (k
         good = good-plan i oki (planOf i (at f) (at h)) (plan-complete i (at f) (at h))
             (local-good (starsOf i) (placeOf (planOf i (at f) (at h))) (lawful i oki)
             (fits-local (starsOf i) (lawful i oki) tri (placeOf (planOf i (at f) (at h)))
-            (plan-fits i oki (omega (arith, kept-job .rooms, T .room-a .0, T .room-a .1)) (at f) (at h)
-            (numbers-are upright i (to-vertex i oki) f ef) (numbers-are level i (to-vertex i oki) h eh))));
+            (plan-fits i z oki some-room (at f) (at h) nf nh)));
+        roomy = plan-roomy i z oki some-room (at f) (at h) nf nh;
       }
 
-module _ (j : Job) (ok : Passes j) (p : Plan) (gp : GoodPlan j p) (a b : ℕ) where
+module _ (j : Job) (z : Sizes) (ok : Passes j) (p : Plan) (gp : GoodPlan j p) (large : Roomy j z p) (a b : ℕ) where
   -- above, b goes past a to the left and turns there, or to the right
   pub both-above : (T : Turn j a b 0) → Beyond (placeOf p) (T .last) up (piece a) (piece b) → List·Memᴰ (entry b 0) (starOf j a)
-      → Both (turned j a b 0) (viewOf j ok p gp) upright level
+      → Both (turned j a b 0) z (viewOf j ok p gp) upright level
   both-above T by m =
-      swung-obeys j ok (turned j a b 0) (turn-keeps j a b 0 T ok .rooms) (viewOf j ok p gp) right-up (sees-right-up j ok p gp) a b
+      swung-obeys j z ok (turned j a b 0) (turn-keeps j a b 0 T ok .rooms) (viewOf j ok p gp) right-up (sees-right-up j ok p gp)
+      (fitted-right-up j ok p gp z large) a b
       (turnedKind 0 (T .last)) (turnedKind (opposite 0) (T .last)) (T .room-a) (T .room-b)
       (sees-right-up j ok p gp .is-over a (T .room-a) (entry b 0) m refl) (turn-entered j a b 0 T) (swings (T .last) by)
     where
@@ -228,9 +233,10 @@ module _ (j : Job) (ok : Passes j) (p : Plan) (gp : GoodPlan j p) (a b : ℕ) wh
 
   -- to the right, b goes past a upwards and turns there, or downwards
   pub both-right : (T : Turn j a b 3) → Beyond (placeOf p) (T .last) right (piece a) (piece b) → List·Memᴰ (entry b 3) (starOf j a)
-      → Both (turned j a b 3) (transposed (viewOf j ok p gp)) level upright
+      → Both (turned j a b 3) z (transposed (viewOf j ok p gp)) level upright
   both-right T by m =
-      swung-obeys j ok (turned j a b 3) (turn-keeps j a b 3 T ok .rooms) (transposed (viewOf j ok p gp)) up-right (sees-up-right j ok p gp) a b
+      swung-obeys j z ok (turned j a b 3) (turn-keeps j a b 3 T ok .rooms) (transposed (viewOf j ok p gp)) up-right (sees-up-right j ok p gp)
+      (fitted-up-right j ok p gp z large) a b
       (turnedKind 3 (T .last)) (turnedKind (opposite 3) (T .last)) (T .room-a) (T .room-b)
       (sees-up-right j ok p gp .is-over a (T .room-a) (entry b 3) m refl) (turn-entered j a b 3 T) (swings (T .last) by)
     where
@@ -242,36 +248,37 @@ module _ (j : Job) (ok : Passes j) (p : Plan) (gp : GoodPlan j p) (a b : ℕ) wh
           (back refl refl (let y = rw (number-piece a, number-piece b) at (x .0) in omega arith) (rw (number-piece a, number-piece b) at (x .1)))
 
   -- a contact above, turned: the turned job has its numbers, in both directions, and the plan by them is good
-  ours-above : (T : Turn j a b 0) → Beyond (placeOf p) (T .last) up (piece a) (piece b) → List·Memᴰ (entry b 0) (starOf j a) → Ours (turned j a b 0)
+  ours-above : (T : Turn j a b 0) → Beyond (placeOf p) (T .last) up (piece a) (piece b) → List·Memᴰ (entry b 0) (starOf j a) → Ours (turned j a b 0) z
   ours-above T by m =
-      let w : Both (turned j a b 0) (viewOf j ok p gp) upright level = both-above T by m in
-      ours j ok p gp a b up T by m (w .xs) (w .ys) (w .obeys-first) (w .obeys-second)
+      let w : Both (turned j a b 0) z (viewOf j ok p gp) upright level = both-above T by m in
+      ours j ok p gp a b up T by m z (w .xs) (w .ys) (w .obeys-first) (w .obeys-second)
 
   -- a contact to the right, turned: the turned job has its numbers, in both directions, and the plan by them is good
-  ours-right : (T : Turn j a b 3) → Beyond (placeOf p) (T .last) right (piece a) (piece b) → List·Memᴰ (entry b 3) (starOf j a) → Ours (turned j a b 3)
+  ours-right : (T : Turn j a b 3) → Beyond (placeOf p) (T .last) right (piece a) (piece b) → List·Memᴰ (entry b 3) (starOf j a) → Ours (turned j a b 3) z
   ours-right T by m =
-      let w : Both (turned j a b 3) (transposed (viewOf j ok p gp)) level upright = both-right T by m in
-      ours j ok p gp a b right T by m (w .ys) (w .xs) (w .obeys-second) (w .obeys-first)
+      let w : Both (turned j a b 3) z (transposed (viewOf j ok p gp)) level upright = both-right T by m in
+      ours j ok p gp a b right T by m z (w .ys) (w .xs) (w .obeys-second) (w .obeys-first)
 
   -- a contact above or to the right, turned: the turned job has its numbers, in both directions, and the plan by them is good
-  ours-of : (m : ℕ) → (m ≡ 0) ⊎ (m ≡ 3) → Past j p a b m → List·Memᴰ (entry b m) (starOf j a) → Ours (turned j a b m)
+  ours-of : (m : ℕ) → (m ≡ 0) ⊎ (m ≡ 3) → Past j p a b m → List·Memᴰ (entry b m) (starOf j a) → Ours (turned j a b m) z
   ours-of m (inl e) =
-      subst (λ m. Past j p a b m → List·Memᴰ (entry b m) (starOf j a) → Ours (turned j a b m)) (sym e) (λ x i. ours-above (x .turn) (x .beyond up refl) i)
+      subst (λ m. Past j p a b m → List·Memᴰ (entry b m) (starOf j a) → Ours (turned j a b m) z) (sym e) (λ x i. ours-above (x .turn) (x .beyond up refl) i)
   ours-of m (inr e) =
-      subst (λ m. Past j p a b m → List·Memᴰ (entry b m) (starOf j a) → Ours (turned j a b m)) (sym e) (λ x i. ours-right (x .turn) (x .beyond right refl) i)
+      subst (λ m. Past j p a b m → List·Memᴰ (entry b m) (starOf j a) → Ours (turned j a b m) z) (sym e) (λ x i. ours-right (x .turn) (x .beyond right refl) i)
 
--- EVERY CONTACT OF A GOOD PLAN THAT CAN BE TURNED: the turned labelling has its numbers, in both directions, and the plan by them is good
-pub turned-ours : (j : Job) (ok : Passes j) (p : Plan) (gp : GoodPlan j p) {u v : ℕ} (t : Turnable j u v) → Ours (turnedBy t)
-turned-ours j ok p gp t = ours-of j ok p gp (t .a) (t .b) (t .m) (t .above-or-right) (past-at j ok p gp t) (t .contact)
+-- EVERY CONTACT OF A GOOD PLAN THAT CAN BE TURNED, its rooms of at least their least sizes: the turned labelling has its numbers, in both directions, and
+-- the plan by them is good
+pub turned-ours : (j : Job) (z : Sizes) (ok : Passes j) (p : Plan) (gp : GoodPlan j p) → Roomy j z p → {u v : ℕ} (t : Turnable j u v) → Ours (turnedBy t) z
+turned-ours j z ok p gp large t = ours-of j z ok p gp large (t .a) (t .b) (t .m) (t .above-or-right) (past-at j ok p gp t) (t .contact)
 
 -- IT PASSES THE DRAWING TEST
-pub turned-draws : (j : Job) (ok : Passes j) (p : Plan) (gp : GoodPlan j p) {u v : ℕ} (t : Turnable j u v) (f g : ℕ → ℕ)
-    → Numbers (rules upright (turnedBy t)) f → Numbers (rules level (turnedBy t)) g → drawable (turnedBy t) (planOf (turnedBy t) f g) ≡ true
-turned-draws j ok p gp t f g nf ng =
-    let o : Ours (turnedBy t) = turned-ours j ok p gp t in
+pub turned-draws : (j : Job) (z : Sizes) (ok : Passes j) (p : Plan) (gp : GoodPlan j p) → Roomy j z p → {u v : ℕ} (t : Turnable j u v) (f g : ℕ → ℕ)
+    → Numbers (rules upright (turnedBy t) z) f → Numbers (rules level (turnedBy t) z) g → drawable (turnedBy t) (planOf (turnedBy t) f g) ≡ true
+turned-draws j z ok p gp large t f g nf ng =
+    let o : Ours (turnedBy t) z = turned-ours j z ok p gp large t in
     let k : Passes (turnedBy t) = labelling-passes (turnedBy t) (turned-keeps j ok p gp t .labelling) in
-    let ef : f ≡ at (o .xs) = fun-ext (λ s. unique (rules upright (turnedBy t)) f (at (o .xs)) nf
-    (numbers-are upright (turnedBy t) (to-vertex (turnedBy t) k) (o .xs) (o .is-upright)) s) in
-    let eg : g ≡ at (o .ys) = fun-ext (λ s. unique (rules level (turnedBy t)) g (at (o .ys)) ng
-    (numbers-are level (turnedBy t) (to-vertex (turnedBy t) k) (o .ys) (o .is-level)) s) in
+    let ef : f ≡ at (o .xs) = fun-ext (λ s. unique (rules upright (turnedBy t) z) f (at (o .xs)) nf
+    (numbers-are upright (turnedBy t) z (to-vertex (turnedBy t) k) (o .xs) (o .is-upright)) s) in
+    let eg : g ≡ at (o .ys) = fun-ext (λ s. unique (rules level (turnedBy t) z) g (at (o .ys)) ng
+    (numbers-are level (turnedBy t) z (to-vertex (turnedBy t) k) (o .ys) (o .is-level)) s) in
     rw (ef, eg) (good-drawable (turnedBy t) k (planOf (turnedBy t) (at (o .xs)) (at (o .ys))) (plan-complete (turnedBy t) (at (o .xs)) (at (o .ys))) (o .good))

@@ -1,16 +1,16 @@
 -- A contact turned in a good plan: the turned labelling has its numbers, for whole numbers can be put on its walls. Assumes nothing.
-use Prim.Native.Nat.{ℕ, _+_, _≤_, _<_, max}
+use Prim.Native.Nat.{ℕ, _+_, _≤_, _<_, max, suc}
 use mathlib.Core.Path.{_≡_, sym, _∙_}
 use mathlib.Core.Logic.{inl, inr}
 use mathlib.Core.List.{[], List·Memᴰ}
 use lib.ListN.{length, getD}
 use native.Mathlib.Omega.{arith}
-use Rattle.floor.specs.Jobs.{Entry, Job, Room, Vertex, starOf}
+use Rattle.floor.specs.Jobs.{Entry, Job, Room, Vertex, starOf, Size, Sizes}
 use Rattle.floor.specs.Jobs.Facts.{Passes, star-at}
-use Rattle.floor.specs.Walls.{Holds, Axis, low}
+use Rattle.floor.specs.Walls.{Holds, Axis, low, extra}
 use Rattle.floor.specs.Walls.Rules.{Asks, Obeys, sided, sided-low, sided-same, sided-before}
 use Rattle.floor.specs.Plans.{Plan, rectOf}
-use Rattle.floor.specs.Floor.{Stands, GoodPlan}
+use Rattle.floor.specs.Floor.{Stands, GoodPlan, Roomy}
 use Rattle.floor.specs.Floor.Bridge.{once}
 use Rattle.floor.specs.Turns.Turned.{Entered, new-a, new-b, old, entered-swap}
 use Rattle.floor.specs.Turns.Shift.{View, transposed, mirrored, Beside, Upon, Passing, Splits, Merges, splits, merges, splits-far, merges-far}
@@ -45,7 +45,7 @@ module _ (j : Job) (ok : Passes j) (p : Plan) (gp : GoodPlan j p) where
         }));
   }
 
--- the kinds of a view's four sides: ahead and back in its first direction, ahead and back in its second
+-- the kinds of a view's four sides: ahead and back in its first direction, ahead and back in its second; and which least size is told in which
 pub record Kinds : Type 0 where
   pub ahead : ℕ
   pub back : ℕ
@@ -56,14 +56,16 @@ pub record Kinds : Type 0 where
   pub ahead-under : ahead ≡ under → ⊥
   pub back-over : back ≡ over → ⊥
   pub back-under : back ≡ under → ⊥
+  pub least-first : Size → ℕ
+  pub least-second : Size → ℕ
 
 -- the walls across its first direction, and across its second
 abbrev pub first-axis : Kinds → Axis
-first-axis k = record { far = k .ahead; near = k .back; cross = k .over }
+first-axis k = record { far = k .ahead; near = k .back; cross = k .over; least = k .least-first }
 
 -- the walls across a view's second direction: over and under join, ahead orders
 abbrev pub second-axis : Kinds → Axis
-second-axis k = record { far = k .over; near = k .under; cross = k .ahead }
+second-axis k = record { far = k .over; near = k .under; cross = k .ahead; least = k .least-second }
 
 -- every contact of the job is met on its side
 pub record Sees (j : Job) (s : View (length j + 4)) (k : Kinds) : Type 0 where
@@ -72,9 +74,15 @@ pub record Sees (j : Job) (s : View (length j + 4)) (k : Kinds) : Type 0 where
   pub is-over : (w : ℕ) → Room j w → (e : Entry) → List·Memᴰ e (starOf j w) → e .kind ≡ k .over → Upon s w (e .to)
   pub is-under : (w : ℕ) → Room j w → (e : Entry) → List·Memᴰ e (starOf j w) → e .kind ≡ k .under → Upon s (e .to) w
 
+-- every room has its least size
+pub record Fitted (n : ℕ) (z : Sizes) (s : View (n + 4)) (k : Kinds) : Type 0 where
+  pub in-first : (r : ℕ) → r < n → s .x1 (4 + r) + suc (extra (first-axis k) z (4 + r)) ≤ s .x2 (4 + r)
+  pub in-second : (r : ℕ) → r < n → s .y1 (4 + r) + suc (extra (second-axis k) z (4 + r)) ≤ s .y2 (4 + r)
+
 -- THE TURNED LABELLING i, where the contact of q and o now lies in the first direction, q before o
-module _ (j : Job) (ok : Passes j) (i : Job) (long : length i ≡ length j) (s : View (length j + 4)) (k : Kinds) (sees : Sees j s k) (q o : ℕ)
-    (room-q : Room j q) (room-o : Room j o) (entered : (w : ℕ) (e : Entry) → List·Memᴰ e (starOf i w) → Entered j q o (k .ahead) (k .back) w e) where
+module _ (j : Job) (z : Sizes) (ok : Passes j) (i : Job) (long : length i ≡ length j) (s : View (length j + 4)) (k : Kinds) (sees : Sees j s k)
+    (large : Fitted (length j) z s k) (q o : ℕ) (room-q : Room j q) (room-o : Room j o)
+    (entered : (w : ℕ) (e : Entry) → List·Memᴰ e (starOf i w) → Entered j q o (k .ahead) (k .back) w e) where
   -- what every entry asks
   asks-of : (P : Entry → ℕ → Type 0) → ((w : ℕ) → Room j w → (e : Entry) → Vertex j (e .to) → Entered j q o (k .ahead) (k .back) w e → P e w)
       → (r : ℕ) → r < length i → (e : Entry) → List·Memᴰ e (getD i r []) → P e (4 + r)
@@ -89,9 +97,11 @@ module _ (j : Job) (ok : Passes j) (i : Job) (long : length i ≡ length j) (s :
       known (old m a b) = ok .entries (4 + r) (omega arith, omega arith) e m .below
 
   -- walls across the first direction: the two ends come together
-  merge-obeys : (g : Merges s q o) → Obeys (first-axis k) (sided (g .lo) (g .hi)) i
+  merge-obeys : (g : Merges s q o) → Obeys (first-axis k) (sided (g .lo) (g .hi)) i z
   merge-obeys g = record {
-    own = λ r h. sided-before (g .lo) (g .hi) (4 + r) (4 + r) 0 (g .own (4 + r) 0 (omega (arith, s .wide (4 + r) (omega arith))));
+    own = λ r h.
+        sided-before (g .lo) (g .hi) (4 + r) (4 + r) (extra (first-axis k) z (4 + r))
+        (g .own (4 + r) (extra (first-axis k) z (4 + r)) (large .in-first r (omega arith)));
     each = asks-of (λ e w. Asks (Holds (sided (g .lo) (g .hi))) (first-axis k) w e) each;
   }
     where
@@ -120,9 +130,11 @@ module _ (j : Job) (ok : Passes j) (i : Job) (long : length i ≡ length j) (s :
 
   -- walls across the second: the line comes apart
   split-obeys : (u v : ℕ) (g : Splits s u v 1) → ((r t : ℕ) → (r ≡ q → t ≡ o → ⊥) → (r ≡ o → t ≡ q → ⊥) → r ≡ u → t ≡ v → ⊥)
-      → g .lo q + 1 ≤ g .hi o → g .lo o + 1 ≤ g .hi q → Obeys (second-axis k) (sided (g .lo) (g .hi)) i
+      → g .lo q + 1 ≤ g .hi o → g .lo o + 1 ≤ g .hi q → Obeys (second-axis k) (sided (g .lo) (g .hi)) i z
   split-obeys u v g other one two = record {
-    own = λ r h. sided-before (g .lo) (g .hi) (4 + r) (4 + r) 0 (g .rises (4 + r) (4 + r) 0 (omega (arith, s .tall (4 + r) (omega arith))));
+    own = λ r h.
+        sided-before (g .lo) (g .hi) (4 + r) (4 + r) (extra (second-axis k) z (4 + r))
+        (g .rises (4 + r) (4 + r) (extra (second-axis k) z (4 + r)) (large .in-second r (omega arith)));
     each = asks-of (λ e w. Asks (Holds (sided (g .lo) (g .hi))) (second-axis k) w e) each;
   }
     where
@@ -151,11 +163,11 @@ module _ (j : Job) (ok : Passes j) (i : Job) (long : length i ≡ length j) (s :
       }
 
 -- numbers that obey, in both directions; in the second nothing goes further than 1
-pub record Both {n : ℕ} (i : Job) (s : View n) (first second : Axis) : Type 0 where
+pub record Both {n : ℕ} (i : Job) (z : Sizes) (s : View n) (first second : Axis) : Type 0 where
   pub xs : ℕ → ℕ
   pub ys : ℕ → ℕ
-  pub obeys-first : Obeys first xs i
-  pub obeys-second : Obeys second ys i
+  pub obeys-first : Obeys first xs i z
+  pub obeys-second : Obeys second ys i z
   pub least : (r : ℕ) → s .y1 r ≤ ys (low r)
   pub most : (r : ℕ) → ys (low r) ≤ s .y1 r + 1
 
@@ -165,10 +177,11 @@ pub data Swings {n : ℕ} (s : View n) (k : Kinds) (a b t o : ℕ) : Type 0 wher
   ahead : t ≡ k .ahead → o ≡ k .back → s .x1 a < s .x1 b → s .x2 a < s .x2 b → Swings s k a b t o
 
 -- NUMBERS CAN BE PUT ON THE WALLS OF THE TURNED LABELLING
-pub swung-obeys : (j : Job) (ok : Passes j) (i : Job) (long : length i ≡ length j) (s : View (length j + 4)) (k : Kinds) (sees : Sees j s k) (a b t o : ℕ)
+pub swung-obeys : (j : Job) (z : Sizes) (ok : Passes j) (i : Job) (long : length i ≡ length j) (s : View (length j + 4)) (k : Kinds) (sees : Sees j s k)
+    (large : Fitted (length j) z s k) (a b t o : ℕ)
     → Room j a → Room j b → Upon s a b → ((w : ℕ) (e : Entry) → List·Memᴰ e (starOf i w) → Entered j a b t o w e) → Swings s k a b t o
-    → Both i s (first-axis k) (second-axis k)
-swung-obeys j ok i long s k sees a b t o ra rb on entered (back et eo lo hi) =
+    → Both i z s (first-axis k) (second-axis k)
+swung-obeys j z ok i long s k sees large a b t o ra rb on entered (back et eo lo hi) =
     let c : Passing s a b = record { known-u = ra .1; known-v = rb .1; line = on .0; before = lo; over = on .1; past = hi } in
     let into : (w : ℕ) (e : Entry) → List·Memᴰ e (starOf i w) → Entered j b a (k .ahead) (k .back) w e =
     λ w e m. entered-swap (rw (et, eo) at (entered w e m)) in
@@ -177,14 +190,14 @@ swung-obeys j ok i long s k sees a b t o ra rb on entered (back et eo lo hi) =
     record {
       xs = sided (x .lo) (x .hi);
       ys = sided (y .lo) (y .hi);
-      obeys-first = merge-obeys j ok i long s k sees b a rb ra into x;
+      obeys-first = merge-obeys j z ok i long s k sees large b a rb ra into x;
       obeys-second =
-          split-obeys j ok i long s k sees b a rb ra into a b y (λ r t n m. m) (y .parts)
+          split-obeys j z ok i long s k sees large b a rb ra into a b y (λ r t n m. m) (y .parts)
           (y .rises a b 0 (omega (arith, on .0, s .tall a (ra .1), s .tall b (rb .1))));
       least = λ r. rw (sided-low (y .lo) (y .hi) r) (y .least r);
       most = λ r. rw (sided-low (y .lo) (y .hi) r) (y .most r);
     }
-swung-obeys j ok i long s k sees a b t o ra rb on entered (ahead et eo lo hi) =
+swung-obeys j z ok i long s k sees large a b t o ra rb on entered (ahead et eo lo hi) =
     let c : Passing (mirrored s) a b = far in
     let into : (w : ℕ) (e : Entry) → List·Memᴰ e (starOf i w) → Entered j a b (k .ahead) (k .back) w e = λ w e m. rw (et, eo) at (entered w e m) in
     let x : Merges s a b = merges-far s a b c in
@@ -192,9 +205,10 @@ swung-obeys j ok i long s k sees a b t o ra rb on entered (ahead et eo lo hi) =
     record {
       xs = sided (x .lo) (x .hi);
       ys = sided (y .lo) (y .hi);
-      obeys-first = merge-obeys j ok i long s k sees a b ra rb into x;
+      obeys-first = merge-obeys j z ok i long s k sees large a b ra rb into x;
       obeys-second =
-          split-obeys j ok i long s k sees a b ra rb into a b y (λ r t n m. n) (y .rises a b 0 (omega (arith, on .0, s .tall a (ra .1), s .tall b (rb .1))))
+          split-obeys j z ok i long s k sees large a b ra rb into a b y (λ r t n m. n)
+          (y .rises a b 0 (omega (arith, on .0, s .tall a (ra .1), s .tall b (rb .1))))
           (y .parts);
       least = λ r. rw (sided-low (y .lo) (y .hi) r) (y .least r);
       most = λ r. rw (sided-low (y .lo) (y .hi) r) (y .most r);
@@ -217,6 +231,8 @@ right-up = record {
   back = 1;
   over = 0;
   under = 2;
+  least-first = λ n. n .wide;
+  least-second = λ n. n .tall;
   ahead-back = λ e. omega arith;
   ahead-over = λ e. omega arith;
   ahead-under = λ e. omega arith;
@@ -231,6 +247,8 @@ up-right = record {
   back = 2;
   over = 3;
   under = 1;
+  least-first = λ n. n .tall;
+  least-second = λ n. n .wide;
   ahead-back = λ e. omega arith;
   ahead-over = λ e. omega arith;
   ahead-under = λ e. omega arith;
@@ -259,3 +277,18 @@ module _ (j : Job) (ok : Passes j) (p : Plan) (gp : GoodPlan j p) where
   sees-up-right =
       let s : Sees j (viewOf j ok p gp) right-up = sees-right-up in
       record { is-ahead = s .is-over; is-back = s .is-under; is-over = s .is-ahead; is-under = s .is-back }
+
+  -- seen first to the right and then up, every room of it has its least size;
+  pub fitted-right-up : (z : Sizes) → Roomy j z p → Fitted (length j) z (viewOf j ok p gp) right-up
+  unfolding viewOf extra
+  fitted-right-up z r = record {
+    in-first = λ i h. omega (arith, r .wide (4 + i) (omega arith, omega arith), gp .inside (4 + i) (omega arith) .wide);
+    in-second = λ i h. omega (arith, r .tall (4 + i) (omega arith, omega arith), gp .inside (4 + i) (omega arith) .tall);
+  }
+
+  -- and seen first up and then to the right
+  pub fitted-up-right : (z : Sizes) → Roomy j z p → Fitted (length j) z (transposed (viewOf j ok p gp)) up-right
+  unfolding transposed
+  fitted-up-right z r =
+      let s : Fitted (length j) z (viewOf j ok p gp) right-up = fitted-right-up z r in
+      record { in-first = s .in-second; in-second = s .in-first }

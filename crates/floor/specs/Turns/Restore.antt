@@ -9,7 +9,8 @@ use lib.ListN.{length}
 use lib.Dec.{leb, eqb}
 use borrow.Author.Tests.{eqb-true, leb-true}
 use Rattle.floor.specs.Lists.Laws.{no-false, or-cases, and-parts, Apart, apart-at}
-use Rattle.floor.specs.Jobs.{Star, Job, Room, opposite, isRoom, starOf, names, kindOf, listOf, Reading, fails, reads}
+use Rattle.floor.specs.Jobs.{Star, Job, Room, opposite, isRoom, starOf, names, kindOf, listOf, Reading, fails, reads, Sizes, SizedJob, sizedJob}
+use Rattle.floor.specs.Jobs.{withSizes}
 use Rattle.floor.specs.Jobs.Stars.{entry, ofKind, kindOf-mem}
 use Rattle.floor.specs.Jobs.Round.{restart-mem}
 use Rattle.floor.specs.Jobs.Straight.{straight, straight-restarts}
@@ -20,7 +21,7 @@ use Rattle.floor.specs.Floor.{GoodPlan}
 use Rattle.floor.specs.Floor.Sides.{Side}
 use Rattle.floor.specs.Floor.Read.{num, piece}
 use Rattle.floor.specs.Floor.Placed.{placeOf}
-use Rattle.floor.specs.Turns.{turned, turningAt, turningFrom, inContact, turning, turn, Kept, Turnable, turnedBy}
+use Rattle.floor.specs.Turns.{turned, turningAt, turningFrom, inContact, turning, turn, Kept, Turnable, turnedBy, turnedWith}
 use Rattle.floor.specs.Turns.Swing.{swing, length-listOf, is-last}
 use Rattle.floor.specs.Turns.Turned.{Turn, turn-again, turn-keeps}
 use Rattle.floor.specs.Turns.Ends.{each-kind, opposite-small, at-ends, Beyond, go-past}
@@ -75,14 +76,16 @@ module _ (j : Job) (u v : ℕ) (ok : Passes j) where
           contact-of v u (opposite kind) (inr (refl, refl)) (from-other kind (ok .entries u ru (entry v kind) m .small) e) rv ru
           (ok .opposed u ru (entry v kind) m (rv .0)) g
 
--- A TURN THAT HOLDS was of such a contact, and its turned job was drawn
-pub asked : (j : Job) (u v : ℕ) (i : Job) (q : Plan) → Passes j → turn j u v ≡ held i q → (t : Turnable j u v) × (drawn (turnedBy t) ≡ held i q)
-unfolding turn drawRead
-asked j u v i q ok h = go (turning j u v) refl h
+-- A TURN THAT HOLDS was of such a contact, and its turned job, with the same sizes, was drawn
+pub asked : (o : SizedJob) (u v : ℕ) (i : SizedJob) (q : Plan) → Passes (o .stars) → turn o u v ≡ held i q
+    → (t : Turnable (o .stars) u v) × (drawn (turnedWith t (o .sizes)) ≡ held i q)
+unfolding turn drawRead withSizes
+asked o u v i q ok h = go (turning (o .stars) u v) refl h
   where
-    go : (r : Reading) → turning j u v ≡ r → drawRead r ≡ held i q → (t : Turnable j u v) × (drawn (turnedBy t) ≡ held i q)
+    go : (r : Reading Job) → turning (o .stars) u v ≡ r → drawRead (withSizes (o .sizes) r) ≡ held i q
+        → (t : Turnable (o .stars) u v) × (drawn (turnedWith t (o .sizes)) ≡ held i q)
     go (fails k) e h = not-held h
-    go (reads l) e h = let (t, f) = turnable j u v ok l e in (t, ap drawn f ∙ h)
+    go (reads l) e h = let (t, f) = turnable (o .stars) u v ok l e in (t, ap (λ (l : Job). drawn (sizedJob l (o .sizes))) f ∙ h)
 
 -- how a contact turns, and that each of the two rooms goes past the other at one end
 pub record Past (j : Job) (p : Plan) (a b m : ℕ) : Type 0 where
@@ -132,10 +135,12 @@ module _ (j : Job) (ok : Passes j) (p : Plan) (gp : GoodPlan j p) where
   turned-keeps t = turn-keeps j (t .a) (t .b) (t .m) (past-at t .turn) ok
 
   -- TURNED AGAIN AT ONCE, whichever of the two numbers is named first: the job, drawn again
-  pub turned-restores : {u v : ℕ} (t : Turnable j u v) → (turn (turnedBy t) u v ≡ drawn j) × (turn (turnedBy t) v u ≡ drawn j)
-  turned-restores {u} {v} t = go (t .a) (t .b) (t .who) (turn-again j (t .a) (t .b) (t .m) (past-at t .turn))
+  pub turned-restores : (z : Sizes) {u v : ℕ} (t : Turnable j u v)
+      → (turn (turnedWith t z) u v ≡ drawn (sizedJob j z)) × (turn (turnedWith t z) v u ≡ drawn (sizedJob j z))
+  turned-restores z {u} {v} t = go (t .a) (t .b) (t .who) (turn-again j z (t .a) (t .b) (t .m) (past-at t .turn))
     where
-      go : (a b : ℕ) → ((a ≡ u) × (b ≡ v)) ⊎ ((a ≡ v) × (b ≡ u)) → (turn (turnedBy t) a b ≡ drawn j) × (turn (turnedBy t) b a ≡ drawn j)
-          → (turn (turnedBy t) u v ≡ drawn j) × (turn (turnedBy t) v u ≡ drawn j)
+      go : (a b : ℕ) → ((a ≡ u) × (b ≡ v)) ⊎ ((a ≡ v) × (b ≡ u))
+          → (turn (turnedWith t z) a b ≡ drawn (sizedJob j z)) × (turn (turnedWith t z) b a ≡ drawn (sizedJob j z))
+          → (turn (turnedWith t z) u v ≡ drawn (sizedJob j z)) × (turn (turnedWith t z) v u ≡ drawn (sizedJob j z))
       go a b (inl (x, y)) s = (rw (← x, ← y) (s .0), rw (← x, ← y) (s .1))
       go a b (inr (x, y)) s = (rw (← x, ← y) (s .1), rw (← x, ← y) (s .0))

@@ -12,7 +12,7 @@ use native.Mathlib.Decide.{decLt, ℕ-discrete}
 use borrow.Author.Tests.{le-leb, eqb-true}
 use Rattle.floor.specs.Lists.{sum}
 use Rattle.floor.specs.Lists.Laws.{and-both, any-count}
-use Rattle.floor.specs.Jobs.{Entry, Star, Job, Room, opposite, isRoom, starOf, names, kindOf, listOf, pairsIn, Reading, reads}
+use Rattle.floor.specs.Jobs.{Entry, Star, Job, Room, opposite, isRoom, starOf, names, kindOf, listOf, pairsIn, Reading, reads, Sizes, sizedJob, withSizes}
 use Rattle.floor.specs.Jobs.Stars.{entry, named, GoodStar, mem-names}
 use Rattle.floor.specs.Jobs.Facts.{passes-labelling, EntryOk, Passes, room-is, star-room, star-frame, passing-true}
 use Rattle.floor.specs.Plans.{drawn, drawRead, joined}
@@ -392,7 +392,7 @@ module _ (j : Job) (a b m : ℕ) (T : Turn j a b m) where
   room-next w r = room-is next w (r .0, omega (arith, r .1, long))
 
 -- a turn asked for from either side, where both ways of asking give one answer
-asked-either : (i : Job) (u v k : ℕ) (r : Reading) → inContact i u v ≡ true → kindOf (starOf i u) v ≡ k → turningAt i u v k ≡ r
+asked-either : (i : Job) (u v k : ℕ) (r : Reading Job) → inContact i u v ≡ true → kindOf (starOf i u) v ≡ k → turningAt i u v k ≡ r
     → turningAt i v u (opposite k) ≡ r → turning i u v ≡ r
 unfolding turning turningFrom
 asked-either i u v k r c e x y = passing-true (inContact i u v) 11 _ c ∙ rw e (go (eqb k 0 || eqb k 3))
@@ -416,9 +416,12 @@ turning-again j a b m T = rw (next-is j a b m T) (
 )
 
 -- the turn made again, in either order of the numbers, answers as the old job numbered and tested does
-pub turn-again : (j : Job) (a b m : ℕ) (T : Turn j a b m) → (turn (turned j a b m) a b ≡ drawn j) × (turn (turned j a b m) b a ≡ drawn j)
-unfolding turn drawRead
-turn-again j a b m T = let (x, y) = turning-again j a b m T in (ap drawRead x, ap drawRead y)
+pub turn-again : (j : Job) (z : Sizes) (a b m : ℕ) (T : Turn j a b m)
+    → (turn (sizedJob (turned j a b m) z) a b ≡ drawn (sizedJob j z)) × (turn (sizedJob (turned j a b m) z) b a ≡ drawn (sizedJob j z))
+unfolding turn drawRead withSizes
+turn-again j z a b m T =
+    let (x, y) = turning-again j a b m T in
+    (ap (λ (r : Reading Job). drawRead (withSizes z r)) x, ap (λ (r : Reading Job). drawRead (withSizes z r)) y)
 
 -- AN ENTRY OF A TURNED STAR, that of w: b's at a, a's at b, or one that was there and is neither
 pub data Entered (j : Job) (a b t o w : ℕ) (e : Entry) : Type 0 where

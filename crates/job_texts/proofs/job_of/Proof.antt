@@ -15,6 +15,9 @@ read-text-requires c κs = search needs
 enum-told : tie.Need-enum-told
 enum-told c = search needs
 
+slice-aggregate-put-bytes : tie.Need-slice-aggregate-put-bytes
+slice-aggregate-put-bytes c = search needs
+
 put-bytes-requires : tie.Need-put-bytes-requires
 put-bytes-requires c κs = search (right-small, needs)
 
@@ -25,10 +28,13 @@ put-wrong-requires : tie.Need-put-wrong-requires
 put-wrong-requires c κs = search needs
 
 returns-2 : tie.Need-returns-2
-returns-2 c = rw (right-job (c .before .before .before .before .before .before .before .before .before .before .before .before .before .before .args .text .now) _ (c .before .before .before .before .before .before .before .before .before .before .before .read-text .ensures) (search needs) (search needs)) (c .put-bytes .ensures)
+returns-2 c = let read = c .before .before .before .before .before .before .before .before .before .before .before .before .before .before in
+    rw (right-job (read .before .before .before .args .text .now) _ (read .read-text .ensures) (search needs) (search needs)) (c .put-bytes .ensures)
 
 returns-3 : tie.Need-returns-3
-returns-3 c = page-put _ _ (c .put-wrong .ensures) (wrong-job (c .before .before .before .before .before .before .before .before .before .args .text .now) _ (c .before .before .before .before .before .before .read-text .ensures) (search needs) _ (search needs)) (search (wrong-short, needs)) (search needs)
+returns-3 c = let read = c .before .before .before .before .before .before .before .before in
+    page-put _ _ (c .put-wrong .ensures) (wrong-job (read .before .before .before .args .text .now) _ (read .read-text .ensures) (search needs) _ (search needs))
+    (search (wrong-short, needs)) (search needs)
 
 pub job-of-spec : {M : Type 1} → statement M
 job-of-spec =
@@ -38,6 +44,7 @@ job-of-spec =
     returns
     read-text-requires
     enum-told
+    slice-aggregate-put-bytes
     put-bytes-requires
     enum-known-verdict
     put-wrong-requires

@@ -16,7 +16,7 @@ enum-told : tie.Need-enum-told
 enum-told c = search needs
 
 put-job-requires : tie.Need-put-job-requires
-put-job-requires c κs = held-passes _ _ (c .before .before .before .before .hold-job .ensures) (search needs)
+put-job-requires c κs = held-passes _ _ (c .before .before .before .before .before .hold-job .ensures) (search needs)
 
 enum-known-answer : tie.Need-enum-known-answer
 enum-known-answer c = search needs
@@ -25,10 +25,13 @@ put-refusal-requires : tie.Need-put-refusal-requires
 put-refusal-requires c κs = search needs
 
 returns-2 : tie.Need-returns-2
-returns-2 c = rw (passed-text (c .before .before .before .before .before .before .before .before .args .job .now) _ (c .before .before .before .before .before .hold-job .ensures) (search needs) (search needs)) (c .put-job .ensures)
+returns-2 c = let held = c .before .before .before .before .before .before in
+    rw (passed-text (held .before .before .before .args .job .now) _ (held .hold-job .ensures) (search needs) (search needs)) (c .put-job .ensures)
 
 returns-3 : tie.Need-returns-3
-returns-3 c = page-put _ _ (c .put-refusal .ensures) (refused-text (c .before .before .before .before .before .before .before .before .before .args .job .now) _ (c .before .before .before .before .before .before .hold-job .ensures) (search needs) _ (search needs)) (search (refusal-short, needs)) (search needs)
+returns-3 c = let held = c .before .before .before .before .before .before .before in
+    page-put _ _ (c .put-refusal .ensures) (refused-text (held .before .before .before .args .job .now) _ (held .hold-job .ensures) (search needs) _ (search needs))
+    (search (refusal-short, needs)) (search needs)
 
 pub text-of-spec : {M : Type 1} → statement M
 text-of-spec =

@@ -1,4 +1,4 @@
-use Rattle.jobs.proofs.Testing.{few-rooms, pairs-known, three-fails, three-kept}
+use Rattle.jobs.proofs.Testing.{few-rooms, pairs-known, sizes-known, three-fails, three-kept}
 use borrow.Author.Needs.{needs}
 use Rattle.jobs.proofs.hold_job.Statement.{statement}
 use Rattle.jobs.proofs.hold_job.Tie as tie
@@ -16,7 +16,7 @@ enum-known-shape-2 : tie.Need-enum-known-shape-2
 enum-known-shape-2 c = search needs
 
 kept-requires : tie.Need-kept-requires
-kept-requires c κs = (search (few-rooms, needs), search (pairs-known, needs))
+kept-requires c κs = (search (few-rooms, needs), search (pairs-known, needs), search (sizes-known, needs))
 
 returns : tie.Need-returns
 returns c = search (three-fails, needs)

@@ -1,4 +1,4 @@
-use Rattle.jobs.proofs.Testing.{few-rooms, pairs-known, read-fails, read-tested}
+use Rattle.jobs.proofs.Testing.{few-rooms, pairs-known, sizes-known, read-fails, read-tested}
 use borrow.Author.Needs.{needs}
 use Rattle.jobs.proofs.read_job.Statement.{statement}
 use Rattle.jobs.proofs.read_job.Tie as tie
@@ -16,7 +16,7 @@ enum-known-shape-2 : tie.Need-enum-known-shape-2
 enum-known-shape-2 c = search needs
 
 tested-requires : tie.Need-tested-requires
-tested-requires c κs = (search (few-rooms, needs), search (pairs-known, needs))
+tested-requires c κs = (search (few-rooms, needs), search (pairs-known, needs), search (sizes-known, needs))
 
 returns : tie.Need-returns
 returns c = search (read-fails, needs)

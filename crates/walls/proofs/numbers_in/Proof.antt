@@ -1,4 +1,4 @@
-use Rattle.walls.proofs.Numbering.{rooms-few, rooms-hold, all-vertices, held-numbers}
+use Rattle.walls.proofs.Numbering.{rooms-fit, rooms-hold, all-vertices, held-numbers}
 use borrow.Author.Needs.{needs}
 use Rattle.walls.proofs.numbers_in.Statement.{statement}
 use Rattle.walls.proofs.numbers_in.Tie as tie
@@ -11,7 +11,7 @@ slice-aggregate-number-front c = search needs
 
 number-front-requires : tie.Need-number-front-requires
 number-front-requires c κs =
-    (search (rooms-few, needs), search (rooms-hold, needs), search (all-vertices, needs))
+    (search (rooms-fit, needs), search (rooms-hold, needs), search (all-vertices, needs))
 
 returns : tie.Need-returns
 returns c = search (held-numbers, needs)

@@ -6,8 +6,8 @@ use Rattle.job_texts.proofs.rows.line_row.Tie as tie
 bare-requires : tie.Need-bare-requires
 bare-requires c κs = search needs
 
-right-requires : tie.Need-right-requires
-right-requires c κs = search needs
+right-line-requires : tie.Need-right-line-requires
+right-line-requires c κs = search needs
 
 returns : tie.Need-returns
 returns c = (search (line-nothing, needs), search needs)
@@ -20,4 +20,4 @@ returns-2 c = (search (line-room, needs), search needs)
 
 pub line-row-spec : {M : Type 1} → statement M
 line-row-spec =
-    tie.close (tie.spec bare-requires right-requires returns room-row-requires returns-2)
+    tie.close (tie.spec bare-requires right-line-requires returns room-row-requires returns-2)

@@ -6,8 +6,8 @@ use Rattle.job_texts.proofs.rows.room_row.Tie as tie
 wide-requires : tie.Need-wide-requires
 wide-requires c κs = search needs
 
-wrong-requires : tie.Need-wrong-requires
-wrong-requires c κs = search needs
+wrong-line-requires : tie.Need-wrong-line-requires
+wrong-line-requires c κs = search needs
 
 returns : tie.Need-returns
 returns c = (search (rooms-over, needs), search needs)
@@ -21,11 +21,11 @@ number-of-requires c κs = search needs
 add-if2 : tie.Need-add-if2
 add-if2 c = search needs
 
-add-t12 : tie.Need-add-t12
-add-t12 c = search needs
+add-t13 : tie.Need-add-t13
+add-t13 c = search needs
 
-wrong-requires-2 : tie.Need-wrong-requires-2
-wrong-requires-2 c κs = search needs
+wrong-line-requires-2 : tie.Need-wrong-line-requires-2
+wrong-line-requires-2 c κs = search needs
 
 returns-2 : tie.Need-returns-2
 returns-2 c = (search (other-number, needs), search needs)
@@ -47,13 +47,13 @@ room-row-spec =
     tie.close
     (tie.spec
     wide-requires
-    wrong-requires
+    wrong-line-requires
     returns
     word-at-requires
     number-of-requires
     add-if2
-    add-t12
-    wrong-requires-2
+    add-t13
+    wrong-line-requires-2
     returns-2
     next-at-requires
     behind-number-requires

@@ -2,17 +2,22 @@ use Prim.Native.Nat.{_+_, _-_}
 use mathlib.Core.Path.{_≡_, refl}
 use lib.ListN.{length}
 use Rattle.floor.specs.JobTexts.{roomsText, jobText}
+use Rattle.floor.specs.Jobs.{sizedJob}
 use Rattle.stars.specs.Held.{starsIn, jobOf}
+use Rattle.stars.specs.Sized.{sizesIn, sizesOf}
 use Rattle.job_texts.proofs.Put.{Left, rooms-first, rooms-next, rooms-done}
 use borrow.Author.Needs.{needs}
 use Rattle.job_texts.proofs.write.put_rooms.Statement.{statement}
 use Rattle.job_texts.proofs.write.put_rooms.Tie as tie
 
 abbrev Inv-loop : tie.InvT-loop
-Inv-loop out₀ stars count next₀ i₀ out next i = (length out ≡ length out₀) × Left out₀ 0 (jobText (jobOf stars)) out next (roomsText (4 + i) (starsIn (count - i) i (stars .ends) (stars .nbr) (stars .kind)))
+Inv-loop out₀ stars sizes count next₀ i₀ out next i =
+    (length out ≡ length out₀)
+    × Left out₀ 0 (jobText (sizedJob (jobOf stars) (sizesOf sizes))) out next
+    (roomsText (4 + i) (starsIn (count - i) i (stars .ends) (stars .nbr) (stars .kind)) (sizesIn (sizes .told) (sizes .list)))
 
 abbrev μ-loop : tie.MeasureT-loop
-μ-loop out₀ stars count next₀ i₀ out next i = count - i
+μ-loop out₀ stars sizes count next₀ i₀ out next i = count - i
 
 wide-requires : tie.Need-wide-requires Inv-loop μ-loop
 wide-requires c κs = search needs

@@ -72,6 +72,15 @@ slice-aggregate-put-word-7 c = search needs
 put-word-requires-7 : tie.Need-put-word-requires-7
 put-word-requires-7 c κs = search needs
 
+enum-told-7 : tie.Need-enum-told-7
+enum-told-7 c = search needs
+
+slice-aggregate-put-word-8 : tie.Need-slice-aggregate-put-word-8
+slice-aggregate-put-word-8 c = search needs
+
+put-word-requires-8 : tie.Need-put-word-requires-8
+put-word-requires-8 c κs = search needs
+
 same-length : tie.Need-same-length
 same-length c = search needs
 
@@ -121,6 +130,13 @@ returns-7 : tie.Need-returns-7
 unfolding expectedText lackOf plain
 returns-7 c = search (lack-told, needs)
 
+same-length-8 : tie.Need-same-length-8
+same-length-8 c = search needs
+
+returns-8 : tie.Need-returns-8
+unfolding expectedText lackOf plain
+returns-8 c = search (lack-told, needs)
+
 pub put-lack-spec : {M : Type 1} → statement M
 put-lack-spec =
     tie.close
@@ -147,6 +163,9 @@ put-lack-spec =
     enum-told-6
     slice-aggregate-put-word-7
     put-word-requires-7
+    enum-told-7
+    slice-aggregate-put-word-8
+    put-word-requires-8
     same-length
     returns
     same-length-2
@@ -160,4 +179,6 @@ put-lack-spec =
     same-length-6
     returns-6
     same-length-7
-    returns-7)
+    returns-7
+    same-length-8
+    returns-8)

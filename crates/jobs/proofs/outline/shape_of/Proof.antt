@@ -1,5 +1,5 @@
 use Rattle.fields.proofs.Laws.{in-order}
-use Rattle.jobs.proofs.Outlines.{shape-broken, shape-tag, shape-long, shape-none, shape-many, shape-left, shape-whole, start-within}
+use Rattle.jobs.proofs.Outlines.{shape-broken, shape-tag, shape-long, shape-none, shape-many, shape-rest, right, start-within}
 use borrow.Author.Needs.{needs}
 use Rattle.jobs.proofs.outline.shape_of.Statement.{statement}
 use Rattle.jobs.proofs.outline.shape_of.Tie as tie
@@ -44,32 +44,19 @@ returns-5 c = let two = c .before .before .before in
     let field = first .before .before .read-at in
     shape-many _ _ (field .ensures .0) (field .ensures .1) _ _ _ (first .first .given .1) (two .before .if1 .left) (two .if2 .left) (c .if4 .taken)
 
-count-pairs-requires : tie.Need-count-pairs-requires
-count-pairs-requires c κs = search needs
-
-enum-told-2 : tie.Need-enum-told-2
-enum-told-2 c = search needs
-
-enum-known-count : tie.Need-enum-known-count
-enum-known-count c = search needs
+rest-of-requires : tie.Need-rest-of-requires
+rest-of-requires c κs = let two = c .before .before .before in
+    let first = two .before .before .before in
+    let field = first .before .before .read-at in
+    right _ _ (field .ensures .0) (field .ensures .1) _ _ _ (first .first .given .1) (two .before .if1 .left) (two .if2 .left) (c .before .if3 .left) (c .if4 .left)
 
 returns-6 : tie.Need-returns-6
-returns-6 c = let four = c .before .before .before in
+returns-6 c = let four = c .before in
     let two = four .before .before .before in
     let first = two .before .before .before in
     let field = first .before .before .read-at in
-    shape-left _ _ (field .ensures .0) (field .ensures .1) _ _ _ (first .first .given .1) (two .before .if1 .left)
-    (two .if2 .left) (four .before .if3 .left) (four .if4 .left) _
-    (c .before .before .count-pairs .ensures) (search needs)
-
-returns-7 : tie.Need-returns-7
-returns-7 c = let four = c .before .before .before .before in
-    let two = four .before .before .before in
-    let first = two .before .before .before in
-    let field = first .before .before .read-at in
-    shape-whole _ _ (field .ensures .0) (field .ensures .1) _ _ _ (first .first .given .1) (two .before .if1 .left)
-    (two .if2 .left) (four .before .if3 .left) (four .if4 .left) _ _
-    (c .before .before .before .count-pairs .ensures) (c .before .count .given .1)
+    shape-rest _ _ (field .ensures .0) (field .ensures .1) _ _ _ (first .first .given .1) (two .before .if1 .left) (two .if2 .left) (four .before .if3 .left)
+    (four .if4 .left) _ (c .rest-of .ensures)
 
 pub shape-of-spec : {M : Type 1} → statement M
 shape-of-spec =
@@ -85,8 +72,5 @@ shape-of-spec =
     shared-slice-read-n
     returns-4
     returns-5
-    count-pairs-requires
-    enum-told-2
-    enum-known-count
-    returns-6
-    returns-7)
+    rest-of-requires
+    returns-6)

@@ -10,14 +10,14 @@ use Rattle.jobs.proofs.put.job_length.Statement.{statement}
 use Rattle.jobs.proofs.put.job_length.Tie as tie
 
 abbrev Inv-loop : tie.InvT-loop
-Inv-loop ends nbr count total₀ i₀ total i = (total ≤ 4 + 723 * i)
+Inv-loop ends nbr count total₀ i₀ total i = (i ≤ count) × (total ≤ 4 + 723 * i)
     × ((kind : List ℕ) → total + length (writeStars (starsIn (count - i) i ends nbr kind)) ≡ length (writeJob (jobIn count ends nbr kind)))
 
 abbrev μ-loop : tie.MeasureT-loop
 μ-loop ends nbr count total₀ i₀ total i = count - i
 
 loop-holds : tie.Need-loop-holds Inv-loop μ-loop
-loop-holds c = (search needs, λ kind. total-first _ _ _ kind)
+loop-holds c = (search needs, search needs, λ kind. total-first _ _ _ kind)
 
 star-length-requires : tie.Need-star-length-requires Inv-loop μ-loop
 star-length-requires c κs = search needs
@@ -38,10 +38,10 @@ loop-less : tie.Need-loop-less Inv-loop μ-loop
 loop-less c = search needs
 
 loop-again : tie.Need-loop-again Inv-loop μ-loop
-loop-again c = (search needs, λ kind. total-more _ _ kind _ _ (c .before .loop-test .taken) _ _ _ (c .star-length .ensures .0) (c .before .before .loop .inv .1 kind))
+loop-again c = (search needs, search needs, λ kind. total-more _ _ kind _ _ (c .before .loop-test .taken) _ _ _ (c .star-length .ensures .0) (c .before .before .loop .inv .2 kind))
 
 returns : tie.Need-returns Inv-loop μ-loop
-returns c = λ kind. total-done _ _ kind _ _ (search needs) _ _ (c .before .loop .inv .1 kind)
+returns c = (λ kind. total-done _ _ kind _ _ (search needs) _ _ (c .before .loop .inv .2 kind), search needs)
 
 pub job-length-spec : {M : Type 1} → statement M
 job-length-spec =

@@ -6,8 +6,11 @@ use Rattle.jobs.proofs.tests.refused.Tie as tie
 none-held-requires : tie.Need-none-held-requires
 none-held-requires c κs = search needs
 
+none-told-requires : tie.Need-none-told-requires
+none-told-requires c κs = search needs
+
 returns : tie.Need-returns
-returns c = refuses _ _ (c .none-held .ensures)
+returns c = search (refuses, needs)
 
 pub refused-spec : {M : Type 1} → statement M
-refused-spec = tie.close (tie.spec none-held-requires returns)
+refused-spec = tie.close (tie.spec none-held-requires none-told-requires returns)

@@ -1,4 +1,4 @@
-use Rattle.jobs.proofs.Testing.{tells-3, tells-4, tells-5, tells-6, tells-job}
+use Rattle.jobs.proofs.Testing.{tells-3, tells-4, tells-5, tells-6, tells-17, tells-job}
 use borrow.Author.Needs.{needs}
 use Rattle.jobs.proofs.tests.tested.Statement.{statement}
 use Rattle.jobs.proofs.tests.tested.Tie as tie
@@ -40,11 +40,46 @@ refused-requires-4 : tie.Need-refused-requires-4
 refused-requires-4 c κs = search needs
 
 returns-4 : tie.Need-returns-4
-returns-4 c = search (tells-6, needs)
+returns-4 c = let sixth = c .before in
+    let word = sixth .before .before in
+    let hold = word .before .before .before .before .before .before .before .before in
+    let fifth = hold .before in
+    let fourth = fifth .before .before in
+    let third = fourth .before .before in
+    let start = third .before .before in
+    tells-6 (start .args .job .now) (start .args .n) (start .args .at) (start .args .pairs) (start .pre .0) (start .pre .1) (third .if1 .left) _ _ _
+    (fourth .before .entries-pass .ensures) (fourth .if2 .left) (fifth .before .stars-pass .ensures) (fifth .if3 .left) _ (hold .hold .ensures) _
+    (word .word .ensures) (sixth .before .answered .ensures) (start .args .end) _ (c .refused4 .ensures) (sixth .if4 .taken)
+
+hold-sizes-requires : tie.Need-hold-sizes-requires
+hold-sizes-requires c κs = search needs
+
+sizes-pass-requires : tie.Need-sizes-pass-requires
+sizes-pass-requires c κs = search needs
+
+refused-requires-5 : tie.Need-refused-requires-5
+refused-requires-5 c κs = search needs
 
 returns-5 : tie.Need-returns-5
-returns-5 c =
-    let word = c .before .before in
+returns-5 c = let passed = c .before .before in
+    let sizes = passed .before .before .before .before in
+    let sixth = sizes .before in
+    let word = sixth .before .before in
+    let hold = word .before .before .before .before .before .before .before .before in
+    let fifth = hold .before in
+    let fourth = fifth .before .before in
+    let third = fourth .before .before in
+    let start = third .before .before in
+    tells-17 (start .args .job .now) (start .args .n) (start .args .at) (start .args .pairs) (start .pre .0) (start .pre .1) (third .if1 .left) _ _ _
+    (fourth .before .entries-pass .ensures) (fourth .if2 .left) (fifth .before .stars-pass .ensures) (fifth .if3 .left) _ (hold .hold .ensures) _
+    (word .word .ensures) (sixth .before .answered .ensures) (sixth .if4 .left)
+    (start .args .end) (start .pre .2) _ (sizes .hold-sizes .ensures) _ (passed .sizes-pass .ensures) _ (c .refused5 .ensures) (c .before .if5 .taken)
+
+returns-6 : tie.Need-returns-6
+returns-6 c = let passed = c .before in
+    let sizes = passed .before .before .before .before in
+    let sixth = sizes .before in
+    let word = sixth .before .before in
     let hold = word .before .before .before .before .before .before .before .before in
     let fifth = hold .before in
     let fourth = fifth .before .before in
@@ -52,7 +87,8 @@ returns-5 c =
     let start = third .before .before in
     tells-job (start .args .job .now) (start .args .n) (start .args .at) (start .args .pairs) (start .pre .0) (start .pre .1) (third .if1 .left) _ _ _
     (fourth .before .entries-pass .ensures) (fourth .if2 .left) (fifth .before .stars-pass .ensures) (fifth .if3 .left) _ (hold .hold .ensures) _
-    (word .word .ensures) (c .before .answered .ensures) (c .if4 .left)
+    (word .word .ensures) (sixth .before .answered .ensures) (sixth .if4 .left)
+    (start .args .end) (start .pre .2) _ (sizes .hold-sizes .ensures) _ (passed .sizes-pass .ensures) (c .if5 .left)
 
 pub tested-spec : {M : Type 1} → statement M
 tested-spec =
@@ -71,4 +107,8 @@ tested-spec =
     answered-requires
     refused-requires-4
     returns-4
-    returns-5)
+    hold-sizes-requires
+    sizes-pass-requires
+    refused-requires-5
+    returns-5
+    returns-6)

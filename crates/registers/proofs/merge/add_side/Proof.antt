@@ -6,8 +6,8 @@ use Rattle.registers.proofs.merge.add_side.Tie as tie
 goes-on-requires : tie.Need-goes-on-requires
 goes-on-requires c κs = search needs
 
-later-requires : tie.Need-later-requires
-later-requires c κs = search needs
+greater-requires : tie.Need-greater-requires
+greater-requires c κs = search needs
 
 add-t8 : tie.Need-add-t8
 add-t8 c = search needs
@@ -15,7 +15,7 @@ add-t8 c = search needs
 returns : tie.Need-returns
 returns c =
     let a = c .before .before .before .before .before .args in
-    (λ d l. side-on _ (a .w) (a .line) (a .begins) (a .ends) d l _ _ (c .before .before .before .goes-on .ensures) (c .before .before .if1 .taken) (c .before .later .ensures), search needs, search needs)
+    (λ d l. side-on _ (a .w) (a .line) (a .begins) (a .ends) d l _ _ (c .before .before .before .goes-on .ensures) (c .before .before .if1 .taken) (c .before .greater .ensures), search needs, search needs)
 
 put-row-requires : tie.Need-put-row-requires
 put-row-requires c κs = search needs
@@ -36,7 +36,7 @@ add-side-spec =
     tie.close
     (tie.spec
     goes-on-requires
-    later-requires
+    greater-requires
     add-t8
     returns
     put-row-requires

@@ -3,6 +3,7 @@ use mathlib.Core.Path.{_≡_, refl}
 use lib.ListN.{length}
 use Rattle.floor.specs.Walls.{rules}
 use Rattle.stars.specs.Held.{jobIn}
+use Rattle.stars.specs.Sized.{sizesIn}
 use Rattle.walls.specs.Steps.{Climbs}
 use Rattle.walls.specs.Jobs.{axisOf}
 use Rattle.walls.proofs.Telling.{named-same}
@@ -12,11 +13,11 @@ use Rattle.walls.proofs.number.climb.Statement.{statement}
 use Rattle.walls.proofs.number.climb.Tie as tie
 
 abbrev Inv-loop : tie.InvT-loop
-Inv-loop f₀ way ends nbr kind count visits from to top done₀ at₀ f done at =
-    (length f ≡ length f₀) × Climbs done (rules (axisOf way) (jobIn count ends nbr kind)) f₀ f top
+Inv-loop f₀ way ends nbr kind count told sizes visits from to top done₀ at₀ f done at =
+    (length f ≡ length f₀) × Climbs done (rules (axisOf way) (jobIn count ends nbr kind) (sizesIn told sizes)) f₀ f top
 
 abbrev μ-loop : tie.MeasureT-loop
-μ-loop f₀ way ends nbr kind count visits from to top done₀ at₀ f done at = to - at
+μ-loop f₀ way ends nbr kind count told sizes visits from to top done₀ at₀ f done at = to - at
 
 loop-holds : tie.Need-loop-holds Inv-loop μ-loop
 loop-holds c = (refl, climbs-none _ _ _)

@@ -4,6 +4,7 @@ use lib.ListN.{length}
 use Rattle.floor.specs.Walls.{rules}
 use Rattle.floor.specs.Walls.Relax.{total, Reached}
 use Rattle.stars.specs.Held.{jobIn}
+use Rattle.stars.specs.Sized.{sizesIn}
 use Rattle.walls.specs.declared.Step.the-variants.{Over}
 use Rattle.walls.specs.Steps.{Capped}
 use Rattle.walls.specs.Jobs.{axisOf}
@@ -14,14 +15,14 @@ use Rattle.walls.proofs.number.settle.Statement.{statement}
 use Rattle.walls.proofs.number.settle.Tie as tie
 
 abbrev Inv-loop : tie.InvT-loop
-Inv-loop f₀ way ends nbr kind count top f =
-    (length f ≡ length f₀) × Reached (rules (axisOf way) (jobIn count ends nbr kind)) f × Capped f top
+Inv-loop f₀ way ends nbr kind count told sizes top f =
+    (length f ≡ length f₀) × Reached (rules (axisOf way) (jobIn count ends nbr kind) (sizesIn told sizes)) f × Capped f top
 
 abbrev μ-loop : tie.MeasureT-loop
-μ-loop f₀ way ends nbr kind count top f = length f₀ * top - total f
+μ-loop f₀ way ends nbr kind count told sizes top f = length f₀ * top - total f
 
 loop-holds : tie.Need-loop-holds Inv-loop μ-loop
-loop-holds c = (refl, c .before .before .before .before .pre .4, c .before .before .before .before .pre .5)
+loop-holds c = let s = c .before .before .before .before .before in (refl, s .pre .4, s .pre .5)
 
 pass-requires : tie.Need-pass-requires Inv-loop μ-loop
 pass-requires c κs = (search needs, search needs, search (named-same, needs))
@@ -55,12 +56,13 @@ same-length-2 c = search needs
 
 returns-2 : tie.Need-returns-2 Inv-loop μ-loop
 returns-2 c =
-    let s = c .before .before .before .before .before .before .before .before .before .before .before .before .before .before .before in
+    let s = c .before .before .before .before .before .before .before .before .before .before .before .before .before .before .before .before in
     let l = c .before .before .before .before .before .before .before .before .before .before .loop in
     let d = c .before .before .before .before .before .before .before .before .pass in
     let e : d .result ≡ Over = cc in
     let q : length (d .last .0) ≡ length (s .args .f .now) = search needs in
-    ran-circle (rules (axisOf (s .args .way)) (jobIn (s .args .count) (s .args .ends .now) (s .args .nbr .now) (s .args .kind .now))) (d .result)
+    ran-circle (rules (axisOf (s .args .way)) (jobIn (s .args .count) (s .args .ends .now) (s .args .nbr .now) (s .args .kind .now))
+    (sizesIn (s .args .told) (s .args .sizes .now))) (d .result)
     (l .f) (d .last .0) (c .before .before .fill .last .0) (s .args .top) (length (s .args .f .now)) e (d .ensures) (l .inv .1) (s .pre .3) q
     (c .before .before .fill .ensures)
 

@@ -1,4 +1,4 @@
-use Rattle.walls.proofs.Visiting.{climbs-none, own-climbs, place-low, place-high}
+use Rattle.walls.proofs.Visiting.{climbs-none, visit-climbs, own-climbs, place-low, place-high}
 use borrow.Author.Needs.{needs}
 use Rattle.walls.proofs.number.visit.Statement.{statement}
 use Rattle.walls.proofs.number.visit.Tie as tie
@@ -6,23 +6,8 @@ use Rattle.walls.proofs.number.visit.Tie as tie
 returns : tie.Need-returns
 returns c = climbs-none _ _ _
 
-add-apply : tie.Need-add-apply
-add-apply c = search needs
-
-mul-apply : tie.Need-mul-apply
-mul-apply c = search needs
-
-add-apply-2 : tie.Need-add-apply-2
-add-apply-2 c = search needs
-
-mul-apply-2 : tie.Need-mul-apply-2
-mul-apply-2 c = search needs
-
-add-apply-3 : tie.Need-add-apply-3
-add-apply-3 c = search needs
-
-apply-requires : tie.Need-apply-requires
-apply-requires c κs = search needs
+own-requires : tie.Need-own-requires
+own-requires c κs = search needs
 
 same-length : tie.Need-same-length
 same-length c = search needs
@@ -50,19 +35,14 @@ same-length-2 : tie.Need-same-length-2
 same-length-2 c = search needs
 
 returns-5 : tie.Need-returns-5
-returns-5 c = search needs
+returns-5 c = search (visit-climbs, place-low, place-high, needs)
 
 pub visit-spec : {M : Type 1} → statement M
 visit-spec =
     tie.close
     (tie.spec
     returns
-    add-apply
-    mul-apply
-    add-apply-2
-    mul-apply-2
-    add-apply-3
-    apply-requires
+    own-requires
     same-length
     returns-2
     start-of-requires

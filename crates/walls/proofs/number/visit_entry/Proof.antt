@@ -1,4 +1,4 @@
-use Rattle.walls.proofs.Visiting.{visit-named, visit-climbs}
+use Rattle.walls.proofs.Visiting.{visit-named, visit-ran}
 use borrow.Author.Needs.{needs}
 use Rattle.walls.proofs.number.visit_entry.Statement.{statement}
 use Rattle.walls.proofs.number.visit_entry.Tie as tie
@@ -19,7 +19,7 @@ same-length : tie.Need-same-length
 same-length c = search needs
 
 returns : tie.Need-returns
-returns c = search (visit-climbs, needs)
+returns c = search (visit-ran, needs)
 
 pub visit-entry-spec : {M : Type 1} → statement M
 visit-entry-spec =

@@ -3,8 +3,9 @@ use mathlib.Core.Path.{_≡_, refl}
 use mathlib.Core.Bool.{true}
 use native.Mathlib.Nat.{sub-zero}
 use lib.ListN.{length}
-use Rattle.floor.specs.Walls.{rulesFrom, rules}
+use Rattle.floor.specs.Walls.{extra, rulesFrom, rules}
 use Rattle.stars.specs.Held.{starsIn, jobIn}
+use Rattle.stars.specs.Sized.{sizesIn}
 use Rattle.walls.specs.Jobs.{axisOf, named}
 use Rattle.walls.proofs.Running.{Going, going-start}
 use Rattle.walls.proofs.Telling.{rooms-here, rooms-later, pass-next, pass-done}
@@ -13,12 +14,13 @@ use Rattle.walls.proofs.rules.pass.Statement.{statement}
 use Rattle.walls.proofs.rules.pass.Tie as tie
 
 abbrev Inv-loop : tie.InvT-loop
-Inv-loop f₀ way ends nbr kind count top done₀ i₀ f done i =
+Inv-loop f₀ way ends nbr kind count told sizes top done₀ i₀ f done i =
     (length f ≡ length f₀) × (named (length f₀) (starsIn (count - i) i ends nbr kind) ≡ true)
-    × Going done (rulesFrom (axisOf way) (4 + i) (starsIn (count - i) i ends nbr kind)) (rules (axisOf way) (jobIn count ends nbr kind)) f₀ f top
+    × Going done (rulesFrom (axisOf way) (extra (axisOf way) (sizesIn told sizes)) (4 + i) (starsIn (count - i) i ends nbr kind))
+    (rules (axisOf way) (jobIn count ends nbr kind) (sizesIn told sizes)) f₀ f top
 
 abbrev μ-loop : tie.MeasureT-loop
-μ-loop f₀ way ends nbr kind count top done₀ i₀ f done i = count - i
+μ-loop f₀ way ends nbr kind count told sizes top done₀ i₀ f done i = count - i
 
 loop-holds : tie.Need-loop-holds Inv-loop μ-loop
 loop-holds c = (refl, rw sub-zero (search needs), rw sub-zero (going-start _ _ _))

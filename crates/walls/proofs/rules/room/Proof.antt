@@ -3,26 +3,17 @@ use borrow.Author.Needs.{needs}
 use Rattle.walls.proofs.rules.room.Statement.{statement}
 use Rattle.walls.proofs.rules.room.Tie as tie
 
-add-u : tie.Need-add-u
-add-u c = search needs
-
-mul-apply : tie.Need-mul-apply
-mul-apply c = search needs
-
-mul-apply-2 : tie.Need-mul-apply-2
-mul-apply-2 c = search needs
-
-add-apply : tie.Need-add-apply
-add-apply c = search needs
-
-apply-requires : tie.Need-apply-requires
-apply-requires c κs = search needs
+own-requires : tie.Need-own-requires
+own-requires c κs = search needs
 
 start-of-requires : tie.Need-start-of-requires
 start-of-requires c κs = search needs
 
 end-of-requires : tie.Need-end-of-requires
 end-of-requires c κs = search needs
+
+add-star : tie.Need-add-star
+add-star c = search needs
 
 star-requires : tie.Need-star-requires
 star-requires c κs = (search needs, search needs, search (room-named, needs))
@@ -40,13 +31,10 @@ pub room-spec : {M : Type 1} → statement M
 room-spec =
     tie.close
     (tie.spec
-    add-u
-    mul-apply
-    mul-apply-2
-    add-apply
-    apply-requires
+    own-requires
     start-of-requires
     end-of-requires
+    add-star
     star-requires
     both-of-requires
     same-length

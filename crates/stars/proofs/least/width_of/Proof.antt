@@ -1,0 +1,23 @@
+use Rattle.stars.proofs.Sized.{width-untold, width-told}
+use borrow.Author.Needs.{needs}
+use Rattle.stars.proofs.least.width_of.Statement.{statement}
+use Rattle.stars.proofs.least.width_of.Tie as tie
+
+wide-requires : tie.Need-wide-requires
+wide-requires c κs = search needs
+
+returns : tie.Need-returns
+returns c = search (width-untold, needs)
+
+mul-number-at : tie.Need-mul-number-at
+mul-number-at c = search needs
+
+number-at-requires : tie.Need-number-at-requires
+number-at-requires c κs = search needs
+
+returns-2 : tie.Need-returns-2
+returns-2 c = search (width-told, needs)
+
+pub width-of-spec : {M : Type 1} → statement M
+width-of-spec =
+    tie.close (tie.spec wide-requires returns mul-number-at number-at-requires returns-2)
