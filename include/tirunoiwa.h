@@ -14,7 +14,7 @@
  *       all of them 1                       18  the sheet is over 250 cells wide or high
  * 8 is not used. Of a job's refusals the first is told, in the order 1, 2, 1, 3, 4, 5, 6, 17, 7, 18, 9: of the first field, the number of rooms, the other
  * fields, and so on.
- * From 256 on it is 256 plus a value: the number of bytes written, or how two vertices touch.
+ * From 256 on it is 256 plus a value: the number of bytes written, how two vertices touch, or how many turns were made.
  *
  * tirunoiwa_share, which told yes or no, is gone; tirunoiwa_touch stands in its place, and tells no wall exactly where it told no.
  *
@@ -34,8 +34,8 @@ extern "C" {
 #endif
 
 /*
- * Buffers that always suffice: for a plan, a sheet and 64 rectangles; for the walls, 63 of them; for the cuts, 60 rooms and 59 cuts; for a turned job, 60
- * stars of 360 pairs and the field of least sizes. A star is never longer than its job.
+ * Buffers that always suffice: for a plan, a sheet and 64 rectangles; for the walls, 63 of them; for the cuts, 60 rooms and 59 cuts; for a turned or narrowed
+ * job, 60 stars of 360 pairs and the field of least sizes. A star is never longer than its job.
  */
 #define TIRUNOIWA_PLAN_MOST (5 + 64 * 8)
 #define TIRUNOIWA_WALLS_MOST (63 * 8)
@@ -64,6 +64,13 @@ size_t tirunoiwa_cuts(const uint8_t *job, size_t job_length, uint8_t *out, size_
  * length, or 1 to 7, 9, 11, 12, 14, 17, 18; 18 also where the turned sheet would be too large.
  */
 size_t tirunoiwa_turned(const uint8_t *job, size_t job_length, size_t u, size_t v, uint8_t *out, size_t out_length);
+
+/*
+ * Reads a job, makes its sheet narrower by turns, and writes the job that they come to to the front of `out`: again and again the first contact of two rooms,
+ * one above the other, by the lower number and then by the other, whose turn is accepted and makes the sheet narrower, until there is none. The sheet may get
+ * higher. Answers 256 + the number of turns, or 1 to 7, 9, 14, 17, 18. What is written is as long as the job: job_length bytes.
+ */
+size_t tirunoiwa_narrow(const uint8_t *job, size_t job_length, uint8_t *out, size_t out_length);
 
 /*
  * Writes the bytes of a room's star to the front of `out`; none where the job's bytes fail test 1 or 2 or have no such room. The other tests are not made.

@@ -40,6 +40,7 @@ struct told {
 };
 void board_load(void);
 void board_turn(void);
+void board_narrow(void);
 void board_rectangle(void);
 void board_touches(void);
 void board_write_job(void);
@@ -62,9 +63,9 @@ struct call {
 static struct call calls[] = {
     CALL(tirunoiwa_plan), CALL(tirunoiwa_turned), CALL(tirunoiwa_star), CALL(tirunoiwa_touch), CALL(tirunoiwa_walls),  CALL(board_load),
     CALL(board_turn),     CALL(board_rectangle),  CALL(board_touches),  CALL(board_write_job), CALL(board_write_plan), CALL(board_write_walls),
-    CALL(tirunoiwa_cuts), CALL(board_slices),     CALL(board_write_cuts),
+    CALL(tirunoiwa_cuts), CALL(board_slices),     CALL(board_write_cuts), CALL(tirunoiwa_narrow), CALL(board_narrow),
 };
-enum { PLAN, TURNED, STAR, TOUCH, WALLS, LOAD, TURN, RECTANGLE, TOUCHES, WRITE_JOB, WRITE_PLAN, WRITE_WALLS, CUTS, SLICES, WRITE_CUTS };
+enum { PLAN, TURNED, STAR, TOUCH, WALLS, LOAD, TURN, RECTANGLE, TOUCHES, WRITE_JOB, WRITE_PLAN, WRITE_WALLS, CUTS, SLICES, WRITE_CUTS, NARROWED, NARROW };
 
 static const char *under_way = "";
 static uint8_t job[MOST];
@@ -188,6 +189,11 @@ static void on_job(size_t length)
     make_on_board(WRITE_PLAN, &held, lent, MOST);
     if (loaded == 256 && told.answer != tirunoiwa_value(planned)) {
         stop("board_write_plan", "not as long as the plan");
+    }
+    const size_t narrowed = make(NARROWED, NULL, bytes, length, lent, MOST, 0, 0);
+    const size_t turns = make_on_board(NARROW, &held, 0, 0);
+    if (loaded == 256 && turns != tirunoiwa_value(narrowed)) {
+        stop("board_narrow", "not the turns of tirunoiwa_narrow");
     }
     const size_t walls = make(WALLS, NULL, bytes, length, lent, MOST, 0, 0);
     make_on_board(WRITE_WALLS, &held, lent, MOST);

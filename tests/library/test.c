@@ -172,6 +172,14 @@ static void wrote(const char *what, size_t answer, const uint8_t *bytes, size_t 
     }
 }
 
+static void narrowed(const char *what, size_t answer, size_t turns, const uint8_t *job, size_t length)
+{
+    expect(what, answer, 256 + turns, job, length);
+    if (tirunoiwa_refused(answer) != 0 || tirunoiwa_value(answer) != turns) {
+        complain(what, "not told by the helpers", answer);
+    }
+}
+
 static void refused(const char *what, size_t answer, unsigned number)
 {
     expect(what, answer, number, NULL, 0);
@@ -317,6 +325,21 @@ static void turns(void)
     refused("a turn of no vertex", tirunoiwa_turned(F, SIZE(F), SIZE_MAX, 5, lend(), MOST), 11);
 }
 
+/* F turned is narrowed by one turn, and is F again; F is as narrow as it gets. With sizes it is the other way round: turned, it is the narrower one. */
+static void narrowings(void)
+{
+    narrowed("P9 narrowed", tirunoiwa_narrow(P9, SIZE(P9), lend(), MOST), 1, F, SIZE(F));
+    narrowed("P9 narrowed, no byte to spare", tirunoiwa_narrow(P9, SIZE(P9), lend(), SIZE(F)), 1, F, SIZE(F));
+    narrowed("F narrowed", tirunoiwa_narrow(F, SIZE(F), lend(), TIRUNOIWA_JOB_MOST), 0, F, SIZE(F));
+    narrowed("P9 with sizes narrowed", tirunoiwa_narrow(SIZED_P9, SIZE(SIZED_P9), lend(), TIRUNOIWA_JOB_MOST), 0, SIZED_P9, SIZE(SIZED_P9));
+    narrowed("a pinwheel narrowed", tirunoiwa_narrow(PINWHEEL, SIZE(PINWHEEL), lend(), MOST), 0, PINWHEEL, SIZE(PINWHEEL));
+    refused("P9 narrowed, a byte too short", tirunoiwa_narrow(P9, SIZE(P9), lend(), SIZE(F) - 1), 14);
+    refused("F narrowed into no bytes", tirunoiwa_narrow(F, SIZE(F), lend(), 0), 14);
+    refused("P2 narrowed", tirunoiwa_narrow(P2, SIZE(P2), lend(), MOST), 2);
+    refused("no job narrowed", tirunoiwa_narrow(P3, 0, lend(), MOST), 1);
+    refused("P10 narrowed before a short buffer", tirunoiwa_narrow(P10, SIZE(P10), lend(), 0), 9);
+}
+
 /* Least sizes: planned, kept by a turn, refused by 17, and by 1 where their field is too short. */
 static void sizes(void)
 {
@@ -403,6 +426,7 @@ int main(void)
     cuts();
     row_of_sixty();
     turns();
+    narrowings();
     sizes();
     rows_of_wide_rooms();
     stars();

@@ -1,5 +1,5 @@
 // Does one thing to a job many times over, so that it can be timed, and prints the sum of what came of it.
-// On standard input: n to number its walls, l to load it, t to turn a contact of it, q to ask of it; 0 to 9, the rounds as a power of ten;
+// On standard input: n to number its walls, l to load it, t to turn a contact of it, s to make it narrower, q to ask of it; 0 to 9, the rounds as a power of ten;
 // the contact's two rooms, a byte each; then the job.
 use board::Board;
 use board::Reply;
@@ -85,7 +85,7 @@ fn shared(touch: Touch) -> u64 {
     length as u64
 }
 
-// 1 for what is done, a thousand times the number of a refusal, where a rectangle ends, the length of wall that is shared.
+// 1 for what is done, a thousand times the number of a refusal, where a rectangle ends, the length of wall that is shared, the turns made.
 fn mark(reply: Reply) -> u64 {
     match reply {
         Reply::Done => 1,
@@ -94,6 +94,7 @@ fn mark(reply: Reply) -> u64 {
         Reply::Touched(touch) => shared(touch),
         Reply::Says(yes) => yes as u64,
         Reply::Wrote(_) => 0,
+        Reply::Made(turns) => turns as u64,
     }
 }
 
@@ -135,6 +136,27 @@ fn turnings(job: &[u8], u: usize, v: usize, rounds: u64) -> u64 {
     let step = none.load(job);
     let held = step.board;
     turns(held, u, v, rounds)
+}
+
+// A floor narrowed so many times, each time as it was first, and the turns added up.
+fn slims(first: Board, rounds: u64) -> u64 {
+    let mut sum: u64 = 0;
+    let mut left = rounds;
+    while 0 < left {
+        let step = first.narrow();
+        let reply = step.reply;
+        sum = std::num::wrapping_add_u64(sum, mark(reply));
+        left -= 1;
+    }
+    sum
+}
+
+// A job loaded once and then narrowed.
+fn slimmings(job: &[u8], rounds: u64) -> u64 {
+    let none = board::empty();
+    let step = none.load(job);
+    let held = step.board;
+    slims(held, rounds)
 }
 
 // One vertex after the other asked for its rectangle, and how it touches u, so many times, and the marks added up.
@@ -188,6 +210,7 @@ fn done(what: u8, rounds: u64, u: usize, v: usize, job: &[u8]) -> u64 {
         b'n' => numberings(job, rounds),
         b'l' => loads(job, rounds),
         b't' => turnings(job, u, v, rounds),
+        b's' => slimmings(job, rounds),
         b'q' => askings(job, u, rounds),
         _ => 0,
     }

@@ -10,10 +10,10 @@ use lib.ListN.{length, getD}
 use Rattle.floor.specs.Jobs.{Job, SizedJob, sizedJob, isVertex, fails, reads, readJob, firstSix, sizesPass, writeSized}
 use Rattle.floor.specs.Jobs.Facts.{six-passed, sizes-passed, passes-of}
 use Rattle.floor.specs.Jobs.Written.{read-test2}
-use Rattle.floor.specs.Plans.{Plan, Answer, refused, held, nowhere, rectOf, clear, touchOf, writePlan, drawRead}
+use Rattle.floor.specs.Plans.{Plan, Answer, refused, held, nowhere, rectOf, touchOf, writePlan, drawRead}
 use Rattle.floor.specs.Registers.{Partition, writeRegister}
 use Rattle.floor.specs.Cuts.{isTree}
-use Rattle.floor.specs.Calls.{load, Board, empty, holding, loads, turns, rectangle, touches, writesJob, writesPlan, writesRegister, slices, writesCuts, refusal}
+use Rattle.floor.specs.Calls.{load, Board, empty, holding, loads, turns, narrows, rectangle, touches, writesJob, writesPlan, writesRegister, slices, writesCuts}
 use Rattle.floor.specs.Calls.{refuse, after, asks, writes, touching, step}
 use Rattle.fields.specs.declared.Written.{Written}
 use Rattle.fields.specs.declared.Written.the-variants.{Wrote as WroteSo, TooShort}
@@ -181,6 +181,11 @@ module _ (b : HeldBoard) (e : b .stars .count ≡ 0) where
   pub ten-turn : (u v : ℕ) → Tells (record { board = b; reply = Refused 10 }) [] (outcome b (turns u v))
   unfolding outcome staying replyOf
   ten-turn u v = rw (eq-eqb (b .stars .count) 0 e) (record { reply = refl; board = refl; buffer = refl })
+
+  -- so is a narrowing
+  pub ten-narrow : Tells (record { board = b; reply = Refused 10 }) [] (outcome b narrows)
+  unfolding outcome staying replyOf
+  ten-narrow = rw (eq-eqb (b .stars .count) 0 e) (record { reply = refl; board = refl; buffer = refl })
 
   -- the question for a rectangle is refused with 10
   pub ten-rectangle : (v : ℕ) → Tells (record { board = b; reply = Refused 10 }) [] (outcome b (rectangle v))

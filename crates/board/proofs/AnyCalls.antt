@@ -20,7 +20,8 @@ use Rattle.board.specs.declared.Step.{Step as Handed}
 use Rattle.board.specs.Boards.{boardFor, noBoard, boardOf, replyOf, handed, asRules, Outcome, outcome, Tells}
 use Rattle.board.specs.Reach.{Reached, at-first, called}
 use Rattle.board.proofs.Corollaries.{saying, saying-back}
-use Rattle.board.proofs.Standing.{Stands, holds-none, holds-both, at-first as holds-nothing, by-rules, stands-on, board-sound, board-holds, register-is}
+use Rattle.board.proofs.Given.{at-first as holds-nothing, board-holds, register-is}
+use Rattle.board.proofs.Standing.{Stands, holds-none, holds-both, by-rules, stands-on, board-sound}
 
 -- a reached board stands
 pub reached-stands : (b : HeldBoard) → Reached b → Stands b
@@ -63,6 +64,10 @@ reached-runs b at-first = ([], holds-nothing)
 reached-runs b (called {b = a} c r buf h t) =
     let (cs, e) = reached-runs a h in
     (cs ++ (c ∷ []), reached-step a h c r buf t .holds ∙ ap (λ (x : Board). step x c .board) e ∙ sym (run-more empty cs c))
+
+-- what a reached board holds is sound
+pub reached-sound : (b : HeldBoard) → Reached b → (o : SizedJob) (p : Plan) → boardOf b ≡ holding o p → Sound o p
+reached-sound b h = board-sound b (reached-stands b h)
 
 -- DEMAND 3: whenever a reached board holds a plan, that is a floor plan for the job that it holds
 pub reached-floor : (b : HeldBoard) → Reached b → (o : SizedJob) (p : Plan) → boardOf b ≡ holding o p → Floor (o .stars) p

@@ -6,7 +6,7 @@ use Rattle.floor.specs.Jobs.{SizedJob}
 use Rattle.floor.specs.Plans.{Plan, Answer, held, clear, wall}
 use Rattle.floor.specs.Plans.Held.{not-held, one-number}
 use Rattle.floor.specs.Registers.{register}
-use Rattle.floor.specs.Calls.{load, Reply, refusal, done, spans, touch, says, wrote}
+use Rattle.floor.specs.Calls.{load, Reply, refusal, done, spans, touch, says, wrote, made}
 use Rattle.floor.specs.Calls.Sound.{load-held}
 use Rattle.drawing.specs.Rects.{rectIn, touchIn, planIn}
 use Rattle.drawing.specs.declared.Touch.the-variants.{Clear, Wall}
@@ -18,10 +18,10 @@ use Rattle.registers.proofs.Corollaries.{few-kept}
 use Rattle.board.specs.declared.Board.{Board as HeldBoard}
 use Rattle.board.specs.declared.Planned.{Planned}
 use Rattle.board.specs.declared.Reply.{Reply as Said}
-use Rattle.board.specs.declared.Reply.the-variants.{Refused, Done, Spans, Touched, Says, Wrote}
+use Rattle.board.specs.declared.Reply.the-variants.{Refused, Done, Spans, Touched, Says, Wrote, Made}
 use Rattle.board.specs.declared.Step.{Step as Handed}
 use Rattle.board.specs.Boards.{boardFor, heldJob, kept, Plans, replyOf, Outcome, Tells}
-use Rattle.board.proofs.Standing.{register-is}
+use Rattle.board.proofs.Given.{register-is}
 
 -- ---- one answer
 
@@ -34,6 +34,7 @@ saying (touch clear) = Touched Clear
 saying (touch (wall k n)) = Touched (Wall k n)
 saying (says t) = Says t
 saying (wrote n) = Wrote n
+saying (made n) = Made n
 
 -- the reply that says what a reply says is that reply
 pub saying-back : (a : Said) → saying (replyOf a) ≡ a
@@ -45,6 +46,7 @@ saying-back (Touched Clear) = refl
 saying-back (Touched (Wall k n)) = refl
 saying-back (Says t) = refl
 saying-back (Wrote n) = refl
+saying-back (Made n) = refl
 
 -- two calls that hand back the same board and the same reply hand back the same
 same-step : (b c : HeldBoard) (x y : Said) → b ≡ c → x ≡ y → _≡_ {A = Handed} (record { board = b; reply = x }) (record { board = c; reply = y })

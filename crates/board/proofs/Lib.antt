@@ -1,3 +1,6 @@
+mod Given
+mod Slimming
+mod Narrowing
 mod Standing
 mod Answering
 pub mod Corollaries

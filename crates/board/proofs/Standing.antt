@@ -1,129 +1,42 @@
 -- The boards that hold a job and plan as the rules leave them: there the outcome of a call is that of the rules. Assumes nothing.
-use Prim.Native.Nat.{ℕ, _≤_}
+use Prim.Native.Nat.{ℕ}
 use mathlib.Core.Path.{_≡_, refl, sym, ap, _∙_}
 use mathlib.Core.Bool.{Bool, true, false}
-use mathlib.Core.Logic.{inl, inr}
 use mathlib.Core.Option.{Option, none, some}
-use mathlib.Core.List.{List, []}
+use mathlib.Core.List.{List}
 use native.Mathlib.Omega.{arith}
-use borrow.Author.Tests.{ne-eqb, leb-true}
+use borrow.Author.Tests.{ne-eqb}
 use lib.Dec.{leb}
 use lib.ListN.{length}
-use Rattle.floor.specs.Lists.Laws.{and-parts}
-use Rattle.floor.specs.Jobs.{Job, SizedJob, sizedJob, pairsIn, test2, test3, Reading, reads, withSizes, writeSized}
-use Rattle.floor.specs.Jobs.Written.{Counts}
-use Rattle.floor.specs.Jobs.Facts.{Passes, labelling-passes, of-passes}
-use Rattle.floor.specs.Walls.{at}
-use Rattle.floor.specs.Plans.{Plan, planOf, Answer, refused, held, past, test18, drawRead, writePlan}
-use Rattle.floor.specs.Floor.Elsewhere.{Ours}
-use Rattle.floor.specs.Turns.{turning, turn, Kept}
-use Rattle.floor.specs.Turns.Restore.{turnable, turned-keeps}
-use Rattle.floor.specs.Registers.{Partition, register, writeRegister}
+use Rattle.floor.specs.Jobs.{Job, SizedJob, sizedJob, Reading, withSizes, writeSized}
+use Rattle.floor.specs.Plans.{Plan, Answer, refused, held, past, test18, drawRead, writePlan}
+use Rattle.floor.specs.Turns.{turn}
+use Rattle.floor.specs.Registers.{register, writeRegister}
 use Rattle.floor.specs.Cuts.{Tree, writeTree, planTree, isTree}
-use Rattle.floor.specs.Calls.{load, Board, empty, holding, Call, loads, turns, rectangle, touches, writesJob, writesPlan, writesRegister, slices, writesCuts, Reply}
-use Rattle.floor.specs.Calls.{says, refuse, after, asks, writes, writesTree, step}
-use Rattle.floor.specs.Calls.Sound.{Sound, sound-good, some-room, load-held, turn-held}
-use Rattle.floor.specs.Calls.Always.{reads-numbered, reads-held}
+use Rattle.floor.specs.Calls.{load, Board, empty, holding, Call, loads, turns, narrows, rectangle, touches, writesJob, writesPlan, writesRegister, slices, writesCuts, Reply}
+use Rattle.floor.specs.Calls.{says, refuse, after, slims, asks, writes, writesTree, step}
+use Rattle.floor.specs.Calls.Sound.{Sound, load-held, turn-held}
 use Rattle.floor.specs.Calls.Bytes.{plan-bytes}
 use Rattle.floor.specs.Calls.Sliced.{cuts-bytes}
+use Rattle.floor.specs.Narrow.{Slim, narrowed}
+use Rattle.floor.specs.Narrow.Result.{narrowed-slim}
 use Rattle.fields.specs.Writes.{writing}
-use Rattle.stars.specs.Held.{jobOf, noStars, heldOf}
-use Rattle.stars.specs.Sized.{sizesOf, heldSizes}
-use Rattle.stars.proofs.Holding.{length-stars}
-use Rattle.stars.proofs.Back.{job-back}
-use Rattle.stars.proofs.Sized.{sizes-back}
-use Rattle.drawing.specs.Rects.{planIn, heldPlan, inBytes}
-use Rattle.drawing.specs.Drawn.{numberedAny}
-use Rattle.drawing.proofs.Corollaries.{numbered-any, bytes-kept, plan-back as drawn-back}
-use Rattle.registers.specs.Sorting.{keptWalls}
-use Rattle.registers.specs.Kept.{keptRegister, registerIn}
-use Rattle.registers.proofs.Corollaries.{kept-right, held-back, held-written}
-use Rattle.cuts.specs.Runs.{treeBytes, cutTree, writing as writingCuts}
+use Rattle.stars.specs.Held.{noStars, heldOf}
+use Rattle.stars.specs.Sized.{heldSizes}
+use Rattle.drawing.proofs.Corollaries.{bytes-kept}
+use Rattle.cuts.specs.Runs.{treeBytes, writing as writingCuts}
 use Rattle.cuts.proofs.Corollaries.{held-tree}
-use Rattle.turns.specs.InPlace.{Swing, stops, swings, swingOf, twoTurned, turnedJob, twoPut}
+use Rattle.turns.specs.InPlace.{Swing, stops, swings, swingOf, twoTurned, turnedJob}
 use Rattle.turns.proofs.Placing.{turning-swings}
-use Rattle.turns.proofs.TurnedStars.{held-turned}
 use Rattle.board.specs.declared.Board.{Board as HeldBoard}
-use Rattle.board.specs.Boards.{boardFor, noBoard, heldJob, boardOf, handed, asRules, staying, newly, turnedTo, outcome}
+use Rattle.board.specs.Boards.{boardFor, noBoard, boardOf, handed, asRules, staying, newly, turnedTo, outcome}
+use Rattle.board.proofs.Given.{board-holds, some-held, job-is, plan-is, walls-written, at-first, turned-held, two-held, sizes-are, sizes-is}
+use Rattle.board.proofs.Slimming.{narrow-rules}
 
 -- A BOARD STANDS: nothing is held, or a job and its plan as a load leaves them
 pub data Stands : HeldBoard → Type 0 where
   holds-none : Stands noBoard
   holds-both : (o : SizedJob) (p : Plan) → Sound o p → Stands (boardFor o p)
-
--- ---- what is held is given back
-
--- tests 2 and 3 leave at most 60 rooms and at most 360 pairs
-few-of : (j : Job) → test2 (length j) ≡ true → test3 j ≡ true → (length j ≤ 60) × (pairsIn j ≤ 360)
-unfolding test2 test3
-few-of j t2 t3 = (leb-true (length j) 60 (and-parts (leb 1 (length j)) _ t2 .1), leb-true (pairsIn j) 360 t3)
-
-module _ (o : SizedJob) (p : Plan) (s : Sound o p) where
-  -- a sound job has at most 60 rooms and at most 360 pairs
-  few : (length (o .stars) ≤ 60) × (pairsIn (o .stars) ≤ 360)
-  few = few-of (o .stars) (s .pass2) (s .pass3)
-
-  -- its stars, held, give back the job
-  pub stars-back : jobOf (heldOf (o .stars)) ≡ o .stars
-  stars-back = job-back (o .stars) (few .0) (few .1) (of-passes (o .stars) (s .passes) .0)
-
-  -- its sizes, held, are given back
-  sizes-given : sizesOf (heldSizes (o .sizes)) ≡ o .sizes
-  sizes-given = sizes-back (o .sizes) (most (s .counts))
-    where
-      most : Counts (length (o .stars)) (o .sizes) → length (o .sizes) ≤ 60
-      most (inl e) = rw e (omega arith)
-      most (inr e) = omega (arith, few .0)
-
-  -- its plan, held, is given back
-  pub plan-back : planIn (heldPlan p) ≡ p
-  plan-back = drawn-back (o .stars) p (sound-good o p s .floor .complete) (few .0)
-
-  -- at least one star is held
-  some-star : heldOf (o .stars) .count ≡ 0 → ⊥
-  some-star e =
-      let h = heldOf (o .stars) in
-      let l : length (jobOf h) ≡ h .count = unfold jobOf in length-stars (h .count) 0 (h .ends) (h .nbr) (h .kind) in
-      let k : length (jobOf h) ≡ length (o .stars) = ap length stars-back in
-      omega (arith, some-room o p s)
-
-  -- the board as a load leaves it holds the job and the plan
-  pub board-holds : boardOf (boardFor o p) ≡ holding o p
-  unfolding boardOf boardFor heldJob
-  board-holds = rw (ne-eqb (heldOf (o .stars) .count) 0 some-star, stars-back, sizes-given, plan-back)
-
-  -- on the board
-  some-held : boardFor o p .stars .count ≡ 0 → ⊥
-  unfolding boardFor
-  some-held = some-star
-
-  -- its stars give back the job
-  job-is : jobOf (boardFor o p .stars) ≡ o .stars
-  unfolding boardFor
-  job-is = stars-back
-
-  -- its rectangles give back the plan
-  plan-is : planIn (boardFor o p .plan) ≡ p
-  unfolding boardFor
-  plan-is = plan-back
-
-  -- its register is kept of the plan's walls, counted afresh
-  walls-are : boardFor o p .register ≡ keptRegister (register p)
-  unfolding boardFor
-  walls-are = ap (λ (ws : List Partition). keptRegister ws) (kept-right o p s)
-
-  -- and gives them back
-  pub register-is : registerIn (boardFor o p .register) ≡ register p
-  register-is = rw walls-are (held-back o p s)
-
-  -- written, they are the register's bytes
-  walls-written : inBytes (writeRegister (registerIn (boardFor o p .register))) ≡ writeRegister (register p)
-  walls-written = rw walls-are (held-written o p s)
-
--- the board at first holds nothing
-pub at-first : boardOf noBoard ≡ empty
-unfolding boardOf noBoard noStars
-at-first = refl
 
 -- ---- a turn
 
@@ -139,44 +52,11 @@ unfolding newly asRules after handed boardFor
 held-rules b a i q e = rw e
 
 module _ (o : SizedJob) (p : Plan) (s : Sound o p) (u v : ℕ) where
-  -- a turned job is given back by its stars, and numbering it, with test 18, comes to what the rules say of the turn
-  turned-held : (i : Job) → turning (o .stars) u v ≡ reads i
-      → (jobOf (heldOf i) ≡ i) × (q : Plan) × (numberedAny (sizedJob i (o .sizes)) ≡ past (test18 q) 18 (λ _. held (sizedJob i (o .sizes)) q))
-      × (turn o u v ≡ past (test18 q) 18 (λ _. held (sizedJob i (o .sizes)) q))
-  unfolding test3
-  turned-held i h =
-      let (t, e) = turnable (o .stars) u v (s .passes) i h in
-      let k : Kept (o .stars) i = rw e at (turned-keeps (o .stars) (s .passes) p (sound-good o p s) t) in
-      let t2 : test2 (length i) ≡ true = rw (k .rooms) (s .pass2) in
-      let t3 : test3 i ≡ true = rw (k .pairs) (s .pass3) in
-      let (a, c) = few-of i t2 t3 in
-      let ok : Passes i = labelling-passes i (k .labelling) in
-      let n : Ours i (o .sizes) = reads-numbered o p s u v i h in (
-        job-back i a c (of-passes i ok .0),
-        planOf i (at (n .xs)) (at (n .ys)),
-        numbered-any (sizedJob i (o .sizes)) t2 ok (n .xs) (n .ys) (n .is-upright) (n .is-level),
-        reads-held o p s u v i h (n .xs) (n .ys) (n .is-upright) (n .is-level),
-      )
-
-  -- both stars of the contact put where they stand are the turned job, held
-  two-held : (a b t : ℕ) → swingOf (o .stars) u v ≡ swings a b t → twoPut (boardFor o p .stars) a b t ≡ heldOf (twoTurned (o .stars) a b t)
-  unfolding boardFor
-  two-held a b t f = held-turned (o .stars) (few o p s .0) (few o p s .1) (stars-back o p s) (s .passes) u v a b t f
-
-  -- the board's sizes are those of the job
-  sizes-are : boardFor o p .sizes ≡ heldSizes (o .sizes)
-  unfolding boardFor
-  sizes-are = refl
-
-  -- and give them back
-  sizes-is : sizesOf (boardFor o p .sizes) ≡ o .sizes
-  sizes-is = rw sizes-are (sizes-given o p s)
-
   -- past test 18 the turned job is held, and else all stays
   tested-rules : (i : Job) (q : Plan) (t : Bool) → newly (boardFor o p) (heldOf i) (past t 18 (λ _. held (sizedJob i (o .sizes)) q))
       ≡ asRules (boardFor o p) (after (holding o p) (past t 18 (λ _. held (sizedJob i (o .sizes)) q)))
   unfolding past
-  tested-rules i q true = held-rules (boardFor o p) (holding o p) (sizedJob i (o .sizes)) q sizes-are
+  tested-rules i q true = held-rules (boardFor o p) (holding o p) (sizedJob i (o .sizes)) q (sizes-are o p s)
   tested-rules i q false = unfold newly in stopped (boardFor o p) (holding o p) 18
 
   -- turning the contact where it stands does what the rules say of the turn
@@ -191,8 +71,8 @@ module _ (o : SizedJob) (p : Plan) (s : Sound o p) (u v : ℕ) where
           ap (λ (r : Reading Job). drawRead (withSizes (o .sizes) r)) (turning-swings (o .stars) u v ∙ ap (turnedJob (o .stars)) f) in
           rw e (stopped (boardFor o p) (holding o p) k)
       go (swings a b t) f =
-          let (back, q, is, so) = turned-held (twoTurned (o .stars) a b t) (turning-swings (o .stars) u v ∙ ap (turnedJob (o .stars)) f) in
-          rw (so, two-held a b t f, back, sizes-is, is) (tested-rules (twoTurned (o .stars) a b t) q (test18 q))
+          let (back, q, is, so) = turned-held o p s u v (twoTurned (o .stars) a b t) (turning-swings (o .stars) u v ∙ ap (turnedJob (o .stars)) f) in
+          rw (so, two-held o p s u v a b t f, back, sizes-is o p s, is) (tested-rules (twoTurned (o .stars) a b t) q (test18 q))
 
 -- ---- a plan and its walls written
 
@@ -206,6 +86,11 @@ writes-same b a c false bs buf = refl
 none-turns : (u v : ℕ) → outcome noBoard (turns u v) ≡ asRules noBoard (step (boardOf noBoard) (turns u v))
 unfolding outcome boardOf noBoard noStars staying step asRules refuse handed
 none-turns u v = refl
+
+-- and so is a narrowing
+none-narrows : outcome noBoard narrows ≡ asRules noBoard (step (boardOf noBoard) narrows)
+unfolding outcome boardOf noBoard noStars staying step asRules refuse handed
+none-narrows = refl
 
 -- on the board at first the writing of a plan is as the rules say
 none-writes : (buf : List ℕ) → outcome noBoard (writesPlan buf) ≡ asRules noBoard (step (boardOf noBoard) (writesPlan buf))
@@ -251,12 +136,15 @@ by-rules b s (rectangle v) = refl
 by-rules b s (touches u v) = refl
 by-rules b s (writesJob buf) = refl
 by-rules b holds-none (turns u v) = none-turns u v
+by-rules b holds-none narrows = none-narrows
 by-rules b holds-none (writesPlan buf) = none-writes buf
 by-rules b holds-none (writesRegister buf) = none-walls buf
 by-rules b holds-none slices = none-slices
 by-rules b holds-none (writesCuts buf) = none-cuts buf
 by-rules b (holds-both o p s) (turns u v) =
     rw (board-holds o p s, ne-eqb (boardFor o p .stars .count) 0 (some-held o p s), job-is o p s) (turn-rules o p s u v)
+by-rules b (holds-both o p s) narrows =
+    rw (board-holds o p s, ne-eqb (boardFor o p .stars .count) 0 (some-held o p s)) (narrow-rules o p s)
 by-rules b (holds-both o p s) (writesPlan buf) =
     rw (board-holds o p s, ne-eqb (boardFor o p .stars .count) 0 (some-held o p s), plan-is o p s, bytes-kept (writePlan p) (plan-bytes o p s))
     (writes-same (boardFor o p) empty (holding o p) (leb (length (writePlan p)) (length buf)) (writePlan p) buf)
@@ -281,6 +169,11 @@ module _ (b : HeldBoard) (a : Board) (h : Holds b a) where
   unfolding handed after refuse
   left-after (refused k) f = h
   left-after (held o p) f = (holds-both o p (f o p refl), board-holds o p (f o p refl))
+
+  -- so does the board that comes back from a narrowing
+  left-slims : (r : Slim) → Sound (r .job) (r .plan) → Holds (handed b (slims r .reply) (slims r .board)) (slims r .board)
+  unfolding handed slims
+  left-slims r s = (holds-both (r .job) (r .plan) s, board-holds (r .job) (r .plan) s)
 
   -- so does the board that comes back from a question
   left-asks : (t : Bool) (r : Reply) → handed b r a ≡ b → Holds (handed b (asks a t r .reply) (asks a t r .board)) (asks a t r .board)
@@ -321,6 +214,7 @@ left-step b a h (loads bs) = loaded a h
     loaded : (a : Board) → Holds b a → Holds (handed b (after a (load bs) .reply) (after a (load bs) .board)) (after a (load bs) .board)
     loaded a h = left-after b a h (load bs) (λ o p e. load-held bs o p e .1)
 left-step b empty h (turns u v) = h
+left-step b empty h narrows = h
 left-step b empty h (rectangle v) = h
 left-step b empty h (touches u v) = h
 left-step b empty h (writesJob buf) = h
@@ -329,6 +223,7 @@ left-step b empty h (writesRegister buf) = h
 left-step b empty h slices = h
 left-step b empty h (writesCuts buf) = h
 left-step b (holding i q) h (turns u v) = left-after b (holding i q) h (turn i u v) (λ o p e. turn-held i q u v o p (sound-of b (h .0) i q (h .1)) e)
+left-step b (holding i q) h narrows = left-slims b (holding i q) h (narrowed i q) (narrowed-slim i q (sound-of b (h .0) i q (h .1)) .sound)
 left-step b (holding i q) h (rectangle v) = left-asks b (holding i q) h _ _ refl
 left-step b (holding i q) h (touches u v) = left-asks b (holding i q) h _ _ refl
 left-step b (holding i q) h (writesJob buf) = left-writes b (holding i q) h _ (writeSized i) buf

@@ -1,29 +1,32 @@
 -- What a board holds, and what a call hands back. Assumes nothing.
-use Prim.Native.Nat.{ℕ}
+use Prim.Native.Nat.{ℕ, _+_}
 use mathlib.Core.Path.{_≡_}
 use mathlib.Core.Bool.{true, cond}
 use mathlib.Core.List.{List, []}
 use lib.Dec.{eqb}
-use Rattle.floor.specs.Jobs.{SizedJob, sizedJob}
+use Rattle.floor.specs.Jobs.{Sizes, SizedJob, sizedJob}
 use Rattle.floor.specs.Plans.{Plan, Answer, refused, held, writePlan}
 use Rattle.floor.specs.Registers.{writeRegister}
 use Rattle.floor.specs.Cuts.{isTree}
-use Rattle.floor.specs.Calls.{Board, empty, holding, Call, loads, turns, rectangle, touches, writesJob, writesPlan, writesRegister, slices, writesCuts}
-use Rattle.floor.specs.Calls.{Reply, refusal, done, spans, touch, says, wrote, Step, refuse, asks, step}
+use Rattle.floor.specs.Calls.{Board, empty, holding, Call, loads, turns, narrows, rectangle, touches, writesJob, writesPlan, writesRegister, slices, writesCuts}
+use Rattle.floor.specs.Calls.{Reply, refusal, done, spans, touch, says, wrote, made, Step, refuse, asks, step}
+use Rattle.floor.specs.Narrow.{Search, nothing, pair}
 use Rattle.fields.specs.Writes.{writing}
 use Rattle.stars.specs.declared.Stars.{Stars}
 use Rattle.stars.specs.Held.{jobOf, noStars, heldOf}
 use Rattle.stars.specs.Sized.{sizesOf, noSizes, heldSizes}
 use Rattle.drawing.specs.Rects.{rectIn, touchIn, planIn, inBytes, noPlan, heldPlan}
-use Rattle.drawing.specs.Drawn.{numberedAny, said}
+use Rattle.drawing.specs.Drawn.{numberedAny, said, kept as planKept}
 use Rattle.registers.specs.Sorting.{keptWalls}
 use Rattle.registers.specs.Kept.{noRegister, keptRegister, registerIn}
 use Rattle.cuts.specs.Runs.{treeBytes, cutTree, writing as writingCuts}
 use Rattle.turns.specs.InPlace.{Swing, stops, swings, swingOf, twoPut}
+use Rattle.narrowing.specs.Slims.{turnedStars, tried, firstSlims, Slimmer, slimmed}
 use Rattle.board.specs.declared.Board.{Board as HeldBoard}
 use Rattle.board.specs.declared.Planned.{Planned}
 use Rattle.board.specs.declared.Reply.{Reply as Said}
-use Rattle.board.specs.declared.Reply.the-variants.{Refused, Done, Spans, Touched, Says, Wrote}
+use Rattle.board.specs.declared.Reply.the-variants.{Refused, Done, Spans, Touched, Says, Wrote, Made}
+use Rattle.board.specs.declared.Slim.{Slim}
 use Rattle.board.specs.declared.Step.{Step as Handed}
 
 -- THE BOARD AS A LOAD LEAVES IT: the stars of the job and its least sizes, the rectangles of the plan, and its walls, counted from it
@@ -52,7 +55,7 @@ pub record Plans (r : Planned) (x : Answer) : Type 0 where
   pub says : said (r .answer) (heldJob (r .board)) (planIn (r .board .plan)) ≡ x
   pub keeps : r .board ≡ kept x
 
--- WHAT A REPLY SAYS: a refusal's number, done, the rectangle, how two touch, yes or no, the length written
+-- WHAT A REPLY SAYS: a refusal's number, done, the rectangle, how two touch, yes or no, the length written, the turns made
 unfoldable pub replyOf : Said → Reply
 replyOf (Refused k) = refusal k
 replyOf Done = done
@@ -60,6 +63,7 @@ replyOf (Spans r) = spans (rectIn r)
 replyOf (Touched t) = touch (touchIn t)
 replyOf (Says t) = says t
 replyOf (Wrote n) = wrote n
+replyOf (Made n) = made n
 
 -- the board that comes back from a call: a new one where a job and plan are newly held, and else the very board that went in
 unfoldable pub handed : HeldBoard → Reply → Board → HeldBoard
@@ -70,6 +74,8 @@ handed b (spans r) c = b
 handed b (touch t) c = b
 handed b (says t) c = b
 handed b (wrote n) c = b
+handed b (made n) (holding o p) = boardFor o p
+handed b (made n) empty = b
 
 -- what comes back from a call: the board, the answer, and the bytes of the lent buffer
 pub record Outcome : Type 0 where
@@ -100,11 +106,39 @@ unfoldable pub turnedTo : HeldBoard → Swing → Outcome
 turnedTo b (stops k) = staying b k
 turnedTo b (swings u v t) = newly b (twoPut (b .stars) u v t) (numberedAny (sizedJob (jobOf (twoPut (b .stars) u v t)) (sizesOf (b .sizes))))
 
--- ONE CALL ON ANY BOARD, whatever stands in it: of what it holds as the rules say; a contact is turned in the very stars, of the plan and of the register one
--- byte of each number is written, and the cuts are those by the walls of the plan, of at most sixty rooms
+-- what is held while a floor is narrowed
+abbrev pub slimIn : Slim → Slimmer
+slimIn r = record { stars = r .stars; plan = r .plan; turns = r .turns }
+
+-- after a search: the pair that it found turned, and one turn more; else all as it was
+unfoldable pub swungSlim : Sizes → Slimmer → Search → Slimmer
+swungSlim z r nothing = r
+swungSlim z r (pair u v) = record { stars = turnedStars (r .stars) u v; plan = planKept (tried (r .stars) z u v); turns = r .turns + 1 }
+
+-- one round
+unfoldable pub onceSlim : Sizes → Slimmer → Slimmer
+onceSlim z r = swungSlim z r (firstSlims (r .stars) z (r .plan))
+
+-- every round, and the turns made before added to theirs
+unfoldable pub slimmedOn : Sizes → Slimmer → Slimmer
+slimmedOn z r =
+    let s : Slimmer = slimmed (r .stars) z (r .plan) in
+    record { stars = s .stars; plan = s .plan; turns = r .turns + s .turns }
+
+-- stars and their plan held with the sizes as they were, and the plan's walls, counted afresh
+unfoldable pub slimBoard : HeldBoard → Slimmer → HeldBoard
+slimBoard b r = record { stars = r .stars; sizes = b .sizes; plan = r .plan; register = keptRegister (keptWalls (planIn (r .plan))) }
+
+-- a floor narrowed, and the number of turns made: the very board where none was, and else what the last of them left
+unfoldable pub slimmedTo : HeldBoard → Slimmer → Outcome
+slimmedTo b r = record { board = cond (eqb (r .turns) 0) b (slimBoard b r); reply = made (r .turns); buffer = [] }
+
+-- ONE CALL ON ANY BOARD, whatever stands in it: of what it holds as the rules say; a contact is turned in the very stars, one or one after the other, of the plan
+-- and of the register one byte of each number is written, and the cuts are those by the walls of the plan, of at most sixty rooms
 unfoldable pub outcome : HeldBoard → Call → Outcome
 outcome b (loads bs) = asRules b (step (boardOf b) (loads bs))
 outcome b (turns u v) = cond (eqb (b .stars .count) 0) (staying b 10) (turnedTo b (swingOf (jobOf (b .stars)) u v))
+outcome b narrows = cond (eqb (b .stars .count) 0) (staying b 10) (slimmedTo b (slimmed (b .stars) (sizesOf (b .sizes)) (b .plan)))
 outcome b (rectangle v) = asRules b (step (boardOf b) (rectangle v))
 outcome b (touches u v) = asRules b (step (boardOf b) (touches u v))
 outcome b (writesJob buf) = asRules b (step (boardOf b) (writesJob buf))

@@ -1,13 +1,13 @@
 // The board: load, questions, writing. It goes in by value and comes back from each call.
 ghost use mathlib.Core.Path.{_≡_};
 ghost use mathlib.Core.List.{[]};
-ghost use Rattle.floor.specs.Calls.{load, loads, turns, rectangle, touches, writesJob, writesPlan, writesRegister, slices, writesCuts};
+ghost use Rattle.floor.specs.Calls.{load, loads, turns, narrows, rectangle, touches, writesJob, writesPlan, writesRegister, slices, writesCuts};
 ghost use Rattle.drawing.specs.declared.Answer.the-variants.{Refused};
 ghost use Rattle.floor.specs.Jobs.{sizedJob};
 ghost use Rattle.stars.specs.Held.{jobOf};
 ghost use Rattle.stars.specs.Sized.{sizesOf};
 ghost use Rattle.drawing.specs.Drawn.{numberedAny, drawnAny, Draws};
-ghost use Rattle.board.specs.Boards.{noBoard, Plans, stayed, newly, outcome, Tells};
+ghost use Rattle.board.specs.Boards.{noBoard, Plans, stayed, newly, slimIn, slimBoard, outcome, Tells};
 use drawing::Drawing;
 use drawing::Plan;
 use drawing::Rect;
@@ -17,6 +17,7 @@ use stars::Sizes;
 use stars::Stars;
 
 mod questions; // questions.rt: what the questions and writings ask
+mod rounds; // rounds.rt: the rounds of a narrowing
 
 // What is held: a job, turns included, as its stars and its least sizes, its plan, and the register of the plan's walls.
 pub struct Board {
@@ -32,6 +33,13 @@ pub struct Planned {
     pub board: Board,
 }
 
+// What is held while a floor is narrowed: the stars and their plan, and the turns made.
+pub struct Slim {
+    pub stars: Stars,
+    pub plan: Plan,
+    pub turns: usize,
+}
+
 // What a call answers; a refusal is its number only.
 pub enum Reply {
     Refused(u8),
@@ -40,6 +48,7 @@ pub enum Reply {
     Touched(Touch),
     Says(bool),
     Wrote(usize),
+    Made(usize),
 }
 
 // What comes back from a call: the board and the answer.
@@ -133,6 +142,22 @@ fn hold_numbered(kept: Board, next: Stars) -> Step
     }
 }
 
+// What a narrowing left, held with the sizes as they were and the walls of its plan, counted afresh.
+fn hold_slim(kept: Board, slim: Slim) -> Board
+    ensures { λ r. ⌜ r ≡ slimBoard kept (slimIn slim) ⌝ }
+{
+    let stars = slim.stars;
+    let sizes = kept.sizes;
+    let plan = slim.plan;
+    let walls = registers::register_of(&plan.rects, plan.rooms, plan.width, plan.height);
+    Board {
+        stars: stars,
+        sizes: sizes,
+        plan: plan,
+        register: walls,
+    }
+}
+
 // A job's bytes planned: tests 1 to 6, 17, 7, 18 and 9; the walls of its plan are counted.
 pub fn plan_job(job: &[u8]) -> Planned
     ensures { λ r. ⌜ Plans r (load (now (job .entry))) ⌝ }
@@ -219,6 +244,37 @@ impl Board {
                 };
                 hold_numbered(self, next)
             }
+        }
+    }
+
+    // The floor narrowed: again and again the first contact, one room above the other, is turned that makes the sheet narrower, until none does. 10.
+    pub fn narrow(self) -> Step
+        ensures { λ r. ⌜ Tells r [] (outcome self narrows) ⌝ }
+    {
+        if self.stars.count == 0 {
+            return stays(self, 10);
+        }
+        let stars = self.stars;
+        let sizes = self.sizes;
+        let plan = self.plan;
+        let slim = rounds::all(
+            Slim {
+                stars: stars,
+                plan: plan,
+                turns: 0,
+            },
+            sizes,
+        );
+        if slim.turns == 0 {
+            return Step {
+                board: self,
+                reply: Reply::Made(0),
+            };
+        }
+        let board = hold_slim(self, slim);
+        Step {
+            board: board,
+            reply: Reply::Made(slim.turns),
         }
     }
 

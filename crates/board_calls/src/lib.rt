@@ -84,6 +84,7 @@ fn answer_of(reply: Reply) -> usize {
         Reply::Touched(touch) => length_of(touch),
         Reply::Says(yes) => yes as usize,
         Reply::Wrote(length) => length,
+        Reply::Made(turns) => turns,
     }
 }
 
@@ -135,6 +136,14 @@ pub extern "C" fn board_load(held: Held, job: &[u8]) -> Told {
 pub extern "C" fn board_turn(held: Held, u: usize, v: usize) -> Told {
     let board = board_of(held);
     let step = board.turn(u, v);
+    tell(step)
+}
+
+// `Board::narrow`.
+#[no_mangle]
+pub extern "C" fn board_narrow(held: Held) -> Told {
+    let board = board_of(held);
+    let step = board.narrow();
     tell(step)
 }
 

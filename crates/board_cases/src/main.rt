@@ -62,6 +62,10 @@ fn show(asked: &[u8], reply: Reply) {
             io::write_all(1, b" bytes");
             show_number(length);
         }
+        Reply::Made(turns) => {
+            io::write_all(1, b" turns");
+            show_number(turns);
+        }
     }
     io::write_all(1, b"\n");
 }

@@ -29,6 +29,8 @@ const SLICES: u8 = 40;
 
 const WRITE_CUTS: u8 = 41;
 
+const NARROW: u8 = 42;
+
 // What stands after a field: the board, and whether another field may follow.
 struct Session {
     board: Board,
@@ -107,6 +109,12 @@ fn put_yes(page: &mut [u8; 4096], yes: bool) -> usize {
     page::put_word(page, 0, b"no")
 }
 
+// The number of turns made.
+fn put_made(page: &mut [u8; 4096], turns: usize) -> usize {
+    let name = page::put_word(page, 0, b"made");
+    page::put_next(page, name, turns)
+}
+
 // The length that was written, and the whole lent buffer, so that what lies behind is seen too.
 fn put_wrote<'a>(page: &mut [u8; 4096], length: usize, lent: &'a [u8]) -> usize {
     let name = page::put_word(page, 0, b"wrote");
@@ -125,6 +133,7 @@ fn put_reply<'a>(page: &mut [u8; 4096], board: Board, reply: Reply, lent: &'a [u
         Reply::Touched(touch) => put_touch(page, touch),
         Reply::Says(yes) => put_yes(page, yes),
         Reply::Wrote(length) => put_wrote(page, length, lent),
+        Reply::Made(turns) => put_made(page, turns),
     }
 }
 
@@ -145,6 +154,14 @@ fn turn(board: Board, value: &[u8]) -> Session {
     }
     let step = board.turn(word_at(value, 0), word_at(value, 2));
     told(step, b"")
+}
+
+// The floor narrowed.
+fn narrow(board: Board, value: &[u8]) -> Session {
+    if value.len() != 0 {
+        return broken(board);
+    }
+    told(board.narrow(), b"")
 }
 
 // The rectangle of a vertex.
@@ -228,6 +245,7 @@ fn call(board: Board, tag: u8, value: &[u8]) -> Session {
     match tag {
         LOAD => told(board.load(value), b""),
         TURN => turn(board, value),
+        NARROW => narrow(board, value),
         RECTANGLE => rectangle(board, value),
         TOUCH => touch(board, value),
         SLICES => slices(board, value),

@@ -34,7 +34,7 @@ fn beyond(a: u16, b: u16) -> u16
 }
 
 // How far the stretches from a to b and from c to d reach over one another.
-fn overlap(a: u16, b: u16, c: u16, d: u16) -> u16
+pub fn overlap(a: u16, b: u16, c: u16, d: u16) -> u16
     ensures { λ r. ⌜ r ≡ overlap a b c d ⌝ }
 {
     beyond(larger(a, c), smaller(b, d))

@@ -37,6 +37,9 @@ use Rattle.floor.specs.Calls.Elsewhere.{good-plan-loads}
 use Rattle.floor.specs.Smallest.{Placing, OneLine, NothingSmaller}
 use Rattle.floor.specs.Smallest.Least.{plain-placing}
 use Rattle.floor.specs.Smallest.Held.{held-placing, held-lines, held-smallest}
+use Rattle.floor.specs.Narrow.{Described, narrowed}
+use Rattle.floor.specs.Calls.{narrows, made, slims, Narrowed}
+use Rattle.floor.specs.Calls.Narrowing.{narrows-refused, narrows-made, narrows-only}
 
 -- DEMAND 1. Every job, however damaged or contradictory, gets an answer: a plan or one numbered refusal.
 pub every-job-answered : (bs : List ℕ) → Answers ofLoad (load bs)
@@ -221,6 +224,21 @@ pub any-calls-tree : (cs : List Call) (o : SizedJob) (p : Plan) → run empty cs
     → (length (leaves t) ≡ length (o .stars)) × (suc (cuts t) ≡ length (o .stars)) × (5 + length (writeTree t) ≡ 9 * length (o .stars))
 any-calls-tree cs o p h t e =
     let s : Sound o p = any-calls-sound cs o p h in (as-many-leaves o p s t e, one-cut-fewer o p s t e, so-many-bytes o p s t e)
+
+-- NARROWING. It is refused by 10, where no plan is held, and by nothing else;
+pub narrow-refused : (b : Board) (k : ℕ) → (step b narrows .reply ≡ refusal k) ↔ ((b ≡ empty) × (k ≡ 10))
+narrow-refused = narrows-refused
+
+-- else its result is the description's, joins the same pairs, is never wider, and no single turn of such a contact narrows it further; the number of turns told is
+-- the description's;
+pub any-calls-narrow : (cs : List Call) (o : SizedJob) (p : Plan) → run empty cs ≡ holding o p
+    → Narrowed o p (narrowed o p) × (step (holding o p) narrows ≡ slims (narrowed o p))
+any-calls-narrow cs o p h = narrows-made o p (any-calls-sound cs o p h)
+
+-- and the description has no other result.
+pub any-calls-described : (cs : List Call) (o : SizedJob) (p : Plan) → run empty cs ≡ holding o p → (n : ℕ) (i : SizedJob) (q : Plan) → Described n o p i q
+    → step (holding o p) narrows ≡ record { board = holding i q; reply = made n; buffer = [] }
+any-calls-described cs o p h = narrows-only o p (any-calls-sound cs o p h)
 
 -- A sheet is refused as too large exactly when it is over 250, one way or the other.
 pub too-large-exactly : (o : SizedJob) (f g : List ℕ) → jobNumbers upright (o .stars) (o .sizes) ≡ some f → jobNumbers level (o .stars) (o .sizes) ≡ some g

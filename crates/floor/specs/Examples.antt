@@ -20,7 +20,9 @@ use Rattle.floor.specs.Registers.{registerOf, register, partitionBytes, 
 use Rattle.floor.specs.Cuts.{lowPart, highPart, crosses, uncrossed, firstOf, firstCut, choice, chosen, both, divided, grow, span, treeOf, wayByte}
 use Rattle.floor.specs.Cuts.{writeTree, roomsOf, inner, planTree, isTree}
 use Rattle.floor.specs.Turns.{turnedKind, withKind, endsAt, isLast, turned, turningAt, turningFrom, inContact, turning, turn}
+use Rattle.floor.specs.Narrow.{stacked, narrower, turnNarrows, orElse, firstWith, firstPair, turnFound, narrowOnce, onward, rounds, narrowed}
 use Rattle.floor.specs.Calls.{Board, empty, holding, Call, loads, turns, rectangle, writesJob, writesPlan, Reply, refusal, done, spans, wrote, Step, load}
+use Rattle.floor.specs.Calls.{narrows, made, slims}
 use Rattle.floor.specs.Calls.{refuse, after, asks, writes, step, run, touches, touch, touching, writesRegister, slices, writesCuts, says, writesTree}
 
 -- P1: one room
@@ -228,7 +230,8 @@ unfoldable pub plan : Board → List ℕ
 plan empty = []
 plan (holding j p) = p .width ∷ p .height ∷ numbers (p .rects)
 
--- a refusal's number; the plan now held; a rectangle; side and length of a wall, or nothing; 1 for yes and 0 for no; the length written and the whole buffer
+-- a refusal's number; the plan now held; a rectangle; side and length of a wall, or nothing; 1 for yes and 0 for no; the length written and the whole buffer;
+-- the turns made and the plan
 unfoldable pub told : Reply → Board → List ℕ → List ℕ
 told (refusal k) b buf = k ∷ []
 told done b buf = plan b
@@ -237,6 +240,7 @@ told (touch clear) b buf = []
 told (touch (wall k n)) b buf = k ∷ n ∷ []
 told (says t) b buf = cond t 1 0 ∷ []
 told (wrote n) b buf = n ∷ buf
+told (made n) b buf = n ∷ plan b
 
 -- some calls on an empty board, then one more, and what it shows
 pub record Row : Type 0 where
@@ -411,6 +415,13 @@ table =
     -- the sizes twice
     record { before = []; last = loads (sized5 ++ 7 ∷ 0 ∷ 4 ∷ 3 ∷ 1 ∷ 1 ∷ 1 ∷ []); shows = 1 ∷ [] }
     ∷
+    -- F turned as in P9 is narrowed by one turn, and is F again; F is not narrowed, nor is an empty board
+    record { before = loads jobF ∷ turns 5 6 ∷ []; last = narrows; shows = 1 ∷ floorF }
+    ∷
+    record { before = loads jobF ∷ []; last = narrows; shows = 0 ∷ floorF }
+    ∷
+    record { before = []; last = narrows; shows = 10 ∷ [] }
+    ∷
     -- F with least sizes
     record { before = []; last = loads sizedF; shows = floorSizedF }
     ∷
@@ -431,6 +442,7 @@ unfolding rowStar row wideRow p1 p5 p6 p7 jobF jobG turnedG oneRoom below p10 fl
     numbersOf jobNumbers rectOf roomRect planOf inside overlap abut apart area corner nextSide joined sharesJoined follows inOrder roundInOrder drawable
     past tested planned drawn rectBytes writeRects writePlan uncrossed crosses firstOf firstCut choice chosen both divided grow span treeOf wayByte
     writeTree lowPart highPart roomsOf inner planTree isTree writesTree cutsF wheel turnedKind withKind turned turningAt turningFrom turning inContact turn
+    stacked narrower turnNarrows orElse firstWith firstPair turnFound narrowOnce onward rounds narrowed slims
     drawRead load refuse after asks writes step run isWall onLine facing touchOn touchOf touching sized5 sizedF floorSized5 floorSizedF turnedSizedF
     afterFields sizeOf sizeOk larger test17 sizePairs sizesIn readSizes sizesPass withSizes sizeBytes writeSizes writeSized extra topOf test18
 examples = refl

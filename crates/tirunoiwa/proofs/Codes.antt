@@ -5,13 +5,13 @@ use mathlib.Core.Bool.{Bool, true, false, cond}
 use native.Mathlib.Omega.{arith}
 use mir.Syntax.{w64}
 use mir.Val.{Fits}
-use Rattle.floor.specs.Calls.{wrote}
+use Rattle.floor.specs.Calls.{wrote, made}
 use Rattle.floor.specs.Tracker.{touchCode, code}
 use Rattle.drawing.specs.declared.Touch.{Touch as Touching}
 use Rattle.drawing.specs.declared.Touch.the-variants.{Clear, Wall}
 use Rattle.drawing.specs.Rects.{touchIn}
 use Rattle.board.specs.declared.Reply.{Reply as Said}
-use Rattle.board.specs.declared.Reply.the-variants.{Touched, Says, Wrote}
+use Rattle.board.specs.declared.Reply.the-variants.{Touched, Says, Wrote, Made}
 use Rattle.board.specs.Boards.{replyOf}
 
 -- no wall is 0
@@ -51,3 +51,13 @@ wrote-fits q n e h = record { fits = h n (rw e) }
 pub code-wrote : (q : Said) (n : ℕ) → q ≡ Wrote n → 256 + n ≡ code (replyOf q)
 unfolding replyOf code
 code-wrote q n e = rw e
+
+-- a number of turns
+pub made-fits : (q : Said) (n : ℕ) → q ≡ Made n → ((m : ℕ) → replyOf q ≡ made m → 256 + m < 2 ^ 64) → Fits w64 (256 + n)
+unfolding replyOf
+made-fits q n e h = record { fits = h n (rw e) }
+
+-- a number of turns, told as 256 more, is that reply as one number
+pub code-made : (q : Said) (n : ℕ) → q ≡ Made n → 256 + n ≡ code (replyOf q)
+unfolding replyOf code
+code-made q n e = rw e

@@ -1,5 +1,5 @@
 -- What follows from the promises of the library's functions. Assumes nothing.
-use Prim.Native.Nat.{ℕ, _+_, _-_, _*_, _/_, _%_, _≤_, _<_}
+use Prim.Native.Nat.{ℕ, _+_, _-_, _/_, _%_, _≤_, _<_}
 use mathlib.Core.Path.{_≡_, refl, sym, ap, _∙_}
 use mathlib.Core.Logic.{_↔_}
 use mathlib.Core.Bool.{Bool, true, false}
@@ -12,10 +12,10 @@ use Rattle.floor.specs.Jobs.{writeSized, rawStar}
 use Rattle.floor.specs.Plans.{Touch, clear, wall, writePlan}
 use Rattle.floor.specs.Registers.{register, writeRegister}
 use Rattle.floor.specs.Cuts.{Tree, writeTree, planTree}
-use Rattle.floor.specs.Calls.{Board, empty, holding, Call, loads, turns, touches, writesJob, writesPlan, writesRegister, writesCuts, Reply, refusal, done, spans}
-use Rattle.floor.specs.Calls.{touch, says, wrote, Step, lent, refuse, asks, writes, writesTree, touching, step}
+use Rattle.floor.specs.Calls.{Board, empty, holding, Call, loads, turns, narrows, touches, writesJob, writesPlan, writesRegister, writesCuts, Reply, refusal, done, spans}
+use Rattle.floor.specs.Calls.{touch, says, wrote, made, Step, lent, refuse, asks, slims, writes, writesTree, touching, step}
 use Rattle.floor.specs.Calls.Effects.{refused-leaves}
-use Rattle.floor.specs.Tracker.{behind, then, planOfJob, wallsOfJob, cutsOfJob, turnedOfJob, touchOfJob, starOfJob, touchCode, code}
+use Rattle.floor.specs.Tracker.{behind, then, planOfJob, wallsOfJob, cutsOfJob, turnedOfJob, instead, toldWritten, narrowedOfJob, touchOfJob, starOfJob, touchCode, code}
 use Rattle.floor.specs.Tracker.Codes.{Fair, touch-code, touching-fair}
 use Rattle.tirunoiwa.proofs.Numbers.{same-refusal, Numbered, step-numbered, writes-told}
 use Rattle.tirunoiwa.proofs.Calling.{then-any, then-numbered}
@@ -47,6 +47,10 @@ module _ (bs buf : List ℕ) (r t : ℕ) (x y : List ℕ) where
   pub one-turned : (u v : ℕ) → Promised (turnedOfJob bs u v buf) r x → Promised (turnedOfJob bs u v buf) t y → (r ≡ t) × (x ≡ y)
   one-turned u v = one (turnedOfJob bs u v buf) r t x y
 
+  -- THE PROMISE OF `tirunoiwa_narrow` ALLOWS ONE ANSWER AND ONE BUFFER
+  pub one-narrow : Promised (narrowedOfJob bs buf) r x → Promised (narrowedOfJob bs buf) t y → (r ≡ t) × (x ≡ y)
+  one-narrow = one (narrowedOfJob bs buf) r t x y
+
   -- THE PROMISE OF `tirunoiwa_star` ALLOWS ONE ANSWER AND ONE BUFFER
   pub one-star : (room : ℕ) → Promised (starOfJob bs room buf) r x → Promised (starOfJob bs room buf) t y → (r ≡ t) × (x ≡ y)
   one-star room = one (starOfJob bs room buf) r t x y
@@ -67,6 +71,11 @@ pub record TellsLength (a : ℕ) (r : Reply) : Type 0 where
   pub refusals : Refusals a r
   pub length : (n : ℕ) → (r ≡ wrote n) ↔ (a ≡ 256 + n)
 
+-- from 256 on an answer tells the number of turns made
+pub record TellsTurns (a : ℕ) (r : Reply) : Type 0 where
+  pub refusals : Refusals a r
+  pub turns : (n : ℕ) → (r ≡ made n) ↔ (a ≡ 256 + n)
+
 -- from 256 on an answer tells a touch: one number, one touch, and its side and length are read off the number
 pub record TellsTouch (a : ℕ) (r : Reply) : Type 0 where
   pub refusals : Refusals a r
@@ -83,6 +92,17 @@ Lengths (spans r) = ⊥
 Lengths (touch t) = ⊥
 Lengths (says t) = ⊥
 Lengths (wrote n) = Unit {0}
+Lengths (made n) = ⊥
+
+-- a refusal, or a number of turns
+abbrev Turning : Reply → Type 0
+Turning (refusal k) = Unit {0}
+Turning done = ⊥
+Turning (spans r) = ⊥
+Turning (touch t) = ⊥
+Turning (says t) = ⊥
+Turning (wrote n) = ⊥
+Turning (made n) = Unit {0}
 
 -- a refusal, or a touch that can be
 abbrev Fairly : Reply → Type 0
@@ -92,10 +112,15 @@ Fairly (spans r) = ⊥
 Fairly (touch t) = Fair t
 Fairly (says t) = ⊥
 Fairly (wrote n) = ⊥
+Fairly (made n) = ⊥
 
 -- a refusal is no length
 no-wrote : {X : Type 0} {k n : ℕ} → refusal k ≡ wrote n → X
 no-wrote e = let z : _≡_ {A = ℕ} 0 1 = cc in absurd (omega arith)
+
+-- a refusal is no number of turns
+no-made : {X : Type 0} {k n : ℕ} → refusal k ≡ made n → X
+no-made e = let z : _≡_ {A = ℕ} 0 1 = cc in absurd (omega arith)
 
 -- a refusal is no touch
 no-touch : {X : Type 0} {k : ℕ} {t : Touch} → refusal k ≡ touch t → X
@@ -104,6 +129,10 @@ no-touch e = let z : _≡_ {A = ℕ} 0 1 = cc in absurd (omega arith)
 -- replies of a length that are equal tell one length
 same-wrote : {k l : ℕ} → wrote k ≡ wrote l → k ≡ l
 same-wrote e = cc
+
+-- replies of a number of turns that are equal tell one number
+same-made : {k l : ℕ} → made k ≡ made l → k ≡ l
+same-made e = cc
 
 -- replies of a touch that are equal tell one touch
 same-touch : {t s : Touch} → touch t ≡ touch s → t ≡ s
@@ -130,6 +159,21 @@ tells-length (says t) n w = absurd w
 tells-length (wrote l) n w = record {
   refusals = not-refused (wrote l) (omega arith) (λ k e. no-wrote e);
   length = λ m. ((λ e. ap (λ (k : ℕ). 256 + k) (same-wrote e)), λ e. ap wrote (omega (arith, e)));
+}
+tells-length (made l) n w = absurd w
+
+-- a refusal or a number of turns is read as what it is
+tells-turns : (r : Reply) → Numbered r → Turning r → TellsTurns (code r) r
+unfolding code
+tells-turns (refusal k) n w = record { refusals = a-refusal k n; turns = λ m. ((λ e. no-made e), λ e. absurd (omega (arith, n .1, e))) }
+tells-turns done n w = absurd w
+tells-turns (spans r) n w = absurd w
+tells-turns (touch t) n w = absurd w
+tells-turns (says t) n w = absurd w
+tells-turns (wrote l) n w = absurd w
+tells-turns (made l) n w = record {
+  refusals = not-refused (made l) (omega arith) (λ k e. no-made e);
+  turns = λ m. ((λ e. ap (λ (k : ℕ). 256 + k) (same-made e)), λ e. ap made (omega (arith, e)));
 }
 
 -- a refusal, or a touch, is read as what it is
@@ -161,6 +205,7 @@ tells-touch (touch t) n w = record {
         rw e (omega (arith, l), omega (arith, l))
 tells-touch (says t) n w = absurd w
 tells-touch (wrote l) n w = absurd w
+tells-touch (made l) n w = absurd w
 
 -- a writing is answered by a refusal or a length
 writes-lengths : (b : Board) (t : Bool) (bs buf : List ℕ) → Lengths (writes b t bs buf .reply)
@@ -177,6 +222,39 @@ tree-lengths b (some t) buf = writes-lengths b _ (writeTree t) buf
 -- a writing behind a step is read as what it is
 written-tells : (s : Step) (c : Call) → Numbered (s .reply) → ((b : Board) → Lengths (step b c .reply)) → TellsLength (code (then s c .reply)) (then s c .reply)
 written-tells s c n f = tells-length _ (then-numbered s c n) (then-any s c Lengths f (λ k e. tt))
+
+-- what both answers have, the one told in the stead of the other has
+instead-any : (P : Reply → Type 0) (r t : Reply) → P r → P t → P (instead r t)
+unfolding instead
+instead-any P (refusal k) t x y = x
+instead-any P done t x y = y
+instead-any P (spans r) t x y = y
+instead-any P (touch w) t x y = y
+instead-any P (says w) t x y = y
+instead-any P (wrote n) t x y = y
+instead-any P (made n) t x y = y
+
+-- a number of turns, told in the stead of a length
+instead-turning : (r t : Reply) → Turning t → Turning (instead r t)
+unfolding instead
+instead-turning (refusal k) t y = tt
+instead-turning done t y = y
+instead-turning (spans r) t y = y
+instead-turning (touch w) t y = y
+instead-turning (says w) t y = y
+instead-turning (wrote n) t y = y
+instead-turning (made n) t y = y
+
+-- a refusal told is one of the writing or of the call before it
+instead-refused : (r t : Reply) (k : ℕ) → ((l : ℕ) → t ≡ refusal l → r ≡ refusal l) → instead r t ≡ refusal k → r ≡ refusal k
+unfolding instead
+instead-refused (refusal l) t k f e = e
+instead-refused done t k f e = f k e
+instead-refused (spans r) t k f e = f k e
+instead-refused (touch w) t k f e = f k e
+instead-refused (says w) t k f e = f k e
+instead-refused (wrote n) t k f e = f k e
+instead-refused (made n) t k f e = f k e
 
 module _ (bs : List ℕ) where
   -- where the load is refused, its number is one of 1 to 18
@@ -221,10 +299,21 @@ module _ (bs : List ℕ) where
         lengths empty = unfold step refuse in tt
         lengths (holding j p) = unfold step in writes-lengths (holding j p) _ (writeSized j) buf
 
+    -- THE ANSWER OF `tirunoiwa_narrow`, READ
+    pub narrow-tells : TellsTurns (code (narrowedOfJob bs buf .reply)) (narrowedOfJob bs buf .reply)
+    unfolding narrowedOfJob toldWritten
+    narrow-tells =
+        tells-turns _ (instead-any Numbered _ _ (then-numbered _ (writesJob buf) (then-numbered _ narrows loaded)) (then-numbered _ narrows loaded))
+        (instead-turning _ _ (then-any (step empty (loads bs)) narrows Turning turning (λ k e. tt)))
+      where
+        turning : (b : Board) → Turning (step b narrows .reply)
+        turning empty = unfold step refuse in tt
+        turning (holding j p) = unfold step slims in tt
+
     -- THE ANSWER OF `tirunoiwa_star`, READ
     pub star-tells : (room : ℕ) → TellsLength (code (starOfJob bs room buf .reply)) (starOfJob bs room buf .reply)
     unfolding starOfJob
-    star-tells room = tells-length _ (writes-told empty _ (rawStar bs room) buf (leb-true (length (rawStar bs room)) (length buf)) .0) (writes-lengths empty _ (rawStar bs room) buf)
+    star-tells room = tells-length _ (writes-told 0 empty _ (rawStar bs room) buf (leb-true (length (rawStar bs room)) (length buf)) .0) (writes-lengths empty _ (rawStar bs room) buf)
 
   -- THE ANSWER OF `tirunoiwa_touch`, READ
   pub touch-tells : (u v : ℕ) → TellsTouch (code (touchOfJob bs u v .reply)) (touchOfJob bs u v .reply)
@@ -251,6 +340,19 @@ behind-leaves (spans r) b c k e = refused-leaves b c k e .same-buffer
 behind-leaves (touch t) b c k e = refused-leaves b c k e .same-buffer
 behind-leaves (says t) b c k e = refused-leaves b c k e .same-buffer
 behind-leaves (wrote n) b c k e = refused-leaves b c k e .same-buffer
+behind-leaves (made n) b c k e = refused-leaves b c k e .same-buffer
+
+-- behind a refusal its number stands
+behind-stands : (r : Reply) (b : Board) (c : Call) (k : ℕ) → r ≡ refusal k → behind r b c .reply ≡ refusal k
+unfolding behind refuse
+behind-stands r b c k e = rw e
+
+-- where a call is refused whose answer is told in the stead of a length, or the writing behind it, the buffer is as it was
+told-leaves : (s : Step) (buf : List ℕ) (k : ℕ) → toldWritten s buf .reply ≡ refusal k → toldWritten s buf .buffer ≡ buf
+unfolding toldWritten then lent
+told-leaves s buf k e =
+    behind-leaves (s .reply) (s .board) (writesJob buf) k
+    (instead-refused _ (s .reply) k (λ l q. behind-stands (s .reply) (s .board) (writesJob buf) l q) e)
 
 module _ (bs buf : List ℕ) (k : ℕ) where
   -- a plan that is refused leaves the buffer as it was
@@ -272,6 +374,11 @@ module _ (bs buf : List ℕ) (k : ℕ) where
   pub turned-leaves : (u v : ℕ) → turnedOfJob bs u v buf .reply ≡ refusal k → turnedOfJob bs u v buf .buffer ≡ buf
   unfolding turnedOfJob then lent
   turned-leaves u v e = behind-leaves _ _ (writesJob buf) k e
+
+  -- a narrowed job that is refused leaves the buffer as it was
+  pub narrow-leaves : narrowedOfJob bs buf .reply ≡ refusal k → narrowedOfJob bs buf .buffer ≡ buf
+  unfolding narrowedOfJob
+  narrow-leaves e = told-leaves _ buf k e
 
   -- a star that is refused leaves the buffer as it was
   pub star-leaves : (room : ℕ) → starOfJob bs room buf .reply ≡ refusal k → starOfJob bs room buf .buffer ≡ buf

@@ -2,7 +2,7 @@
 ghost use mathlib.Core.Path.{_≡_};
 ghost use mathlib.Core.Bool.{cond};
 ghost use Prim.Native.Nat.{ℕ, _+_, _<_, _^_};
-ghost use Rattle.floor.specs.Calls.{wrote};
+ghost use Rattle.floor.specs.Calls.{wrote, made};
 ghost use Rattle.floor.specs.Tracker.{touchCode, code};
 ghost use Rattle.drawing.specs.Rects.{touchIn};
 ghost use Rattle.board.specs.Boards.{replyOf};
@@ -29,9 +29,9 @@ fn code_of_yes(yes: bool) -> usize
     0
 }
 
-// The number of a reply that has one: a length that is told is never as great as the memory.
+// The number of a reply that has one: a length that is told is never as great as the memory, and a number of turns less still.
 pub fn code_of(reply: Reply) -> usize
-    requires { ⌜ ((n : ℕ) → replyOf reply ≡ wrote n → 256 + n < 2 ^ 64) ⌝ }
+    requires { ⌜ ((n : ℕ) → replyOf reply ≡ wrote n → 256 + n < 2 ^ 64) × ((n : ℕ) → replyOf reply ≡ made n → 256 + n < 2 ^ 64) ⌝ }
     ensures { λ r. ⌜ r ≡ code (replyOf reply) ⌝ }
 {
     match reply {
@@ -41,5 +41,6 @@ pub fn code_of(reply: Reply) -> usize
         Reply::Touched(touch) => 256 + code_of_touch(touch),
         Reply::Says(yes) => 256 + code_of_yes(yes),
         Reply::Wrote(length) => 256 + length,
+        Reply::Made(turns) => 256 + turns,
     }
 }

@@ -1,9 +1,13 @@
 // The planner for other programs: plain functions over a job's bytes. No board is kept between two calls.
 ghost use mathlib.Core.Path.{_≡_};
+ghost use mathlib.Core.List.{[]};
 ghost use Rattle.floor.specs.Calls.{empty, loads, step};
-ghost use Rattle.floor.specs.Tracker.{planOfJob, wallsOfJob, cutsOfJob, turnedOfJob, touchOfJob, starOfJob, code};
-ghost use Rattle.tirunoiwa.specs.Left.{Left};
+ghost use Rattle.floor.specs.Tracker.{planOfJob, wallsOfJob, cutsOfJob, turnedOfJob, narrowedOfJob, touchOfJob, starOfJob, code};
+ghost use Rattle.board.specs.Boards.{boardOf, outcome, Tells};
+ghost use Rattle.board.specs.Reach.{Reached};
+ghost use Rattle.tirunoiwa.specs.Left.{Left, changing};
 use board::Board;
+use board::Step;
 
 mod answer; // answer.rt: an answer as one number
 
@@ -31,6 +35,37 @@ fn load(job: &[u8]) -> Loaded
     Loaded {
         answer: answer,
         board: held,
+    }
+}
+
+// A call that changes the plan on a board: a contact turned, or the floor narrowed.
+enum Change {
+    Turn(usize, usize),
+    Narrow,
+}
+
+// Such a call made.
+fn made(board: Board, what: Change) -> Step
+    ensures { λ r. ⌜ Tells r [] (outcome board (changing what)) ⌝ }
+{
+    match what {
+        Change::Turn(u, v) => board.turn(u, v),
+        Change::Narrow => board.narrow(),
+    }
+}
+
+// The same on a board that calls reach, and its answer as one number. One function for both changes, so that neither takes its stack beside a load's.
+fn changed(board: Board, what: Change) -> Loaded
+    requires { ⌜ Reached board ⌝ }
+    ensures { λ r. ⌜ Left (r .board) (r .answer) (step (boardOf board) (changing what)) ⌝ }
+{
+    let step = made(board, what);
+    let next = step.board;
+    let reply = step.reply;
+    let answer = answer::code_of(reply);
+    Loaded {
+        answer: answer,
+        board: next,
     }
 }
 
@@ -93,16 +128,36 @@ pub extern "C" fn tirunoiwa_turned(job: &[u8], u: usize, v: usize, out: &mut [u8
         return loaded.answer;
     }
     let held = loaded.board;
-    let turned = held.turn(u, v);
-    let next = turned.board;
-    let reply = turned.reply;
-    let answer = answer::code_of(reply);
-    if answer < FIRST_VALUE {
-        return answer;
+    let turned = changed(held, Change::Turn(u, v));
+    if turned.answer < FIRST_VALUE {
+        return turned.answer;
     }
+    let next = turned.board;
     let written = next.write_job(out);
     let last = written.reply;
     answer::code_of(last)
+}
+
+// The job with its floor narrowed, written to a lent buffer; how many turns were made is told.
+#[no_mangle]
+pub extern "C" fn tirunoiwa_narrow(job: &[u8], out: &mut [u8]) -> usize
+    ensures { λ r. ⌜ (r ≡ code (narrowedOfJob (now (job .entry)) (now (out .entry)) .reply))
+        × (now (out .exit) ≡ narrowedOfJob (now (job .entry)) (now (out .entry)) .buffer) ⌝ }
+{
+    let loaded = load(job);
+    if loaded.answer < FIRST_VALUE {
+        return loaded.answer;
+    }
+    let held = loaded.board;
+    let narrowed = changed(held, Change::Narrow);
+    let slim = narrowed.board;
+    let written = slim.write_job(out);
+    let last = written.reply;
+    let told = answer::code_of(last);
+    if told < FIRST_VALUE {
+        return told;
+    }
+    narrowed.answer
 }
 
 // The star of a room in a job's bytes, written to a lent buffer.

@@ -77,7 +77,7 @@ module _ (j : Job) (z : Sizes) where
       omega (arith, b)
 
   -- a direction has numbers only where the job can be numbered, and there are as many as sides
-  sides-numbered : (a : Axis) (f : List ℕ) → numbersIn a j z ≡ some f
+  pub sides-numbered : (a : Axis) (f : List ℕ) → numbersIn a j z ≡ some f
       → (test2 (length j) ≡ true) × (vertices j ≡ true) × (length f ≡ 2 * (length j + 4))
   unfolding numbersIn
   sides-numbered a f e = go (test2 (length j)) refl (vertices j) refl e
@@ -99,7 +99,7 @@ module _ (j : Job) (z : Sizes) where
       go true true y q = job-bound a j z (vertices-named y) (at f) (numbers-are a j z (vertices-named y) f q) s
 
   -- numbers of every side, with noughts behind them, are read at each side as they are
-  at-place : (u : List ℕ) → length u ≡ 2 * (length j + 4) → (s : ℕ) → s < 2 * (length j + 4) → getD (placed u) s 0 ≡ at u s
+  pub at-place : (u : List ℕ) → length u ≡ 2 * (length j + 4) → (s : ℕ) → s < 2 * (length j + 4) → getD (placed u) s 0 ≡ at u s
   at-place u l s h = List·getD-append u (drop (length u) noughts) 0 s (omega arith) ∙ at-getD u s (omega arith)
 
   -- WALLS WITH NUMBERS: both directions have them, and the sides read them

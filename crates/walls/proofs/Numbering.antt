@@ -19,7 +19,7 @@ use Rattle.stars.specs.Held.{jobIn}
 use Rattle.stars.proofs.Holding.{length-stars}
 use Rattle.walls.specs.Steps.{Answers, Fronts}
 use Rattle.walls.specs.Jobs.{entryNamed, starNamed, named}
-use Rattle.walls.specs.Numbers.{vertices, numbersIn, numbersHeld, noWalls, wallsFrom}
+use Rattle.walls.specs.Numbers.{vertices, numbersIn, numbersHeld, widthIn, noWalls, wallsFrom}
 use Rattle.walls.specs.declared.Answer.the-variants.{Numbered, Circle}
 use Rattle.walls.specs.declared.Numbers.{Numbers}
 use Rattle.walls.specs.declared.Walls.{Walls}
@@ -62,6 +62,11 @@ module _ (ends nbr kind : List ℕ) (n : ℕ) where
   pub none-good : (z : Sizes) (b : Bool) (w : Walls) → b ≡ good → not b ≡ true → w ≡ noWalls → w ≡ wallsFrom (numbersIn upright job z) (numbersIn level job z)
   unfolding wallsFrom numbersIn
   none-good z b w q f e = let g : good ≡ false = sym q ∙ not-true b f in rw g e
+
+  -- so it has no width by its upright numbers
+  pub no-width : (z : Sizes) (b : Bool) → b ≡ good → not b ≡ true → 0 ≡ widthIn (numbersIn upright job z)
+  unfolding widthIn numbersIn
+  no-width z b q f = let g : good ≡ false = sym q ∙ not-true b f in rw g
 
   -- one that was asked can be numbered
   pub is-good : (b : Bool) → b ≡ good → not b ≡ false → good ≡ true

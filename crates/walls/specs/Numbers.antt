@@ -6,7 +6,7 @@ use Prim.Native.Nat.{ℕ, _+_}
 use lib.ListN.{length, getD, replicate, drop}
 use Rattle.floor.specs.Lists.{all}
 use Rattle.floor.specs.Jobs.{Entry, Job, Sizes, isVertex, test2}
-use Rattle.floor.specs.Walls.{Axis, upright, level, low, high, jobNumbers}
+use Rattle.floor.specs.Walls.{Axis, upright, level, low, high, at, jobNumbers}
 use Rattle.walls.specs.declared.Answer.{Answer}
 use Rattle.walls.specs.declared.Answer.the-variants.{Numbered, Circle}
 use Rattle.walls.specs.declared.Walls.{Walls}
@@ -34,6 +34,11 @@ placed f = f ++ drop (length f) noughts
 unfoldable pub numbersHeld : Option (List ℕ) → Numbers
 numbersHeld none = record { found = false; list = noughts }
 numbersHeld (some f) = record { found = true; list = placed f }
+
+-- the width of the sheet by the upright numbers: that of E's left wall plus 1; none: 0
+unfoldable pub widthIn : Option (List ℕ) → ℕ
+widthIn none = 0
+widthIn (some f) = at f (low 3) + 1
 
 -- the refusal that an answer is, if it is one: 7 where the walls run in a circle
 unfoldable pub refusalOf : Answer → Option ℕ

@@ -4,12 +4,12 @@ ghost use mathlib.Core.Bool.{true, _&&_};
 ghost use Prim.Native.Nat.{_+_, _*_, _≤_};
 ghost use lib.ListN.{length, getD, replicate};
 ghost use Rattle.floor.specs.Jobs.{test2};
-ghost use Rattle.floor.specs.Walls.{rules};
+ghost use Rattle.floor.specs.Walls.{upright, rules};
 ghost use Rattle.stars.specs.Held.{jobIn};
 ghost use Rattle.stars.specs.Sized.{sizesIn};
 ghost use Rattle.walls.specs.Jobs.{axisOf, named};
 ghost use Rattle.walls.specs.Steps.{Fronts};
-ghost use Rattle.walls.specs.Numbers.{vertices, numbersIn, numbersHeld, noWalls, wallsOf, sidesAt, sheetAt};
+ghost use Rattle.walls.specs.Numbers.{vertices, numbersIn, numbersHeld, widthIn, noWalls, wallsOf, sidesAt, sheetAt};
 
 mod steps; // steps.rt: one rule, and what it does to the numbers
 mod rules; // rules.rt: the rules of an entry, a star, a room, a job
@@ -256,4 +256,29 @@ pub fn sheet_at<'a>(xs: &'a [u16], ys: &'a [u16]) -> Sheet
         width: fields::number(x) + 1,
         height: fields::number(y) + 1,
     }
+}
+
+// The width of the sheet by the upright numbers alone, without the work of the level ones; 0 where there are none.
+pub fn width_of<'a>(
+    ends: &'a [u16],
+    nbr: &'a [u16],
+    kind: &'a [u8],
+    count: usize,
+    told: usize,
+    sizes: &'a [u8],
+) -> usize
+    ensures { λ r. ⌜ r ≡ widthIn (numbersIn upright (jobIn count (now (ends .entry)) (now (nbr .entry)) (now (kind .entry))) (sizesIn told (now (sizes .entry)))) ⌝ }
+{
+    if !can_number(ends, nbr, kind, count) {
+        return 0;
+    }
+    let mut parts = [0u16; 256];
+    orders::note_parts(&mut parts, ends, kind, nbr.len(), count);
+    let across = Direction::Upright;
+    let upright = numbers_in(ends, nbr, kind, count, told, sizes, &parts, across);
+    if !upright.found {
+        return 0;
+    }
+    let xs = upright.list;
+    fields::number(side_number(&xs, 3, 0)) + 1
 }

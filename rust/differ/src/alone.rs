@@ -1,3 +1,5 @@
+//! Jobs that chance hardly makes, kept here.
+//!
 //! Jobs that pass tests 1 to 7 and fail one item of the drawing test alone. Chance hardly ever makes one with an overlap and a gap of one
 //! size, or with a gap alone, so some of each item are kept here, found by a search. No job can fail "inside the sheet" alone: each
 //! room's walls are numbered between the frame's.
@@ -34,6 +36,17 @@ pub fn undrawable(chance: &mut Chance) -> Job {
     restarted(chance, job)
 }
 
+/// A floor as high as it may be, in which narrowing passes a contact over because its turn is refused by 18, and turns it once another is turned. But for
+/// that, one round over the contacts comes to the same as starting over: two turns can be exchanged, and each changes the width by at most 1.
+const PASSED_OVER: &str =
+    "0100011d02000a0e0009011d0110020303020008000001010802030302000a170011011e0209020c030200080a00010102020303020008050001010b02030302000e0e000c0006001e010f011d020403020008100001010702030302000808000101120203030200081700060109020e030200081a0017010e02030302000c0d0017010c010902040203030200081e0011011d02090302000c04001d00160001010a02030302000e1700010116021d030f031e0306030200080b0001011b0203030200081f0001011402180302000813000101200218030200081b0001011f0203030200081100010110021d0302001019000101110206020c020e030d031a0302000c1f0013011401200119021c0302000e1c0018002000010117021a020303020008190017010d02030302000812000101150203030200081f0018011902030302000c09000f001101160110020403020008060011010f02090302000c15000101130218021c020303020008140001011902180307003a020e010e0109010c020a020b020c010b020b020f010e010c010e02090109010e020c010e010b020d010b020d010c010c020e020e010c010c010a";
+
+/// That floor, its stars started at random.
+pub fn passed_over(chance: &mut Chance) -> Job {
+    let job = read(&bytes_of(PASSED_OVER)).expect("the kept floor passes tests 1 to 6");
+    restarted(chance, job)
+}
+
 fn bytes_of(hex: &str) -> Vec<u8> {
     (0..hex.len())
         .step_by(2)
@@ -43,10 +56,26 @@ fn bytes_of(hex: &str) -> Vec<u8> {
 
 #[cfg(test)]
 mod tests {
-    use super::{bytes_of, KEPT};
+    use super::{bytes_of, KEPT, PASSED_OVER};
     use reference::drawing::{faults, place};
     use reference::job::read;
     use reference::walls::number_walls;
+    use reference::{Board, Refusal};
+
+    #[test]
+    fn a_contact_is_passed_over_and_turned_later() {
+        let mut board = Board::empty();
+        let (width, height) = board.load(&bytes_of(PASSED_OVER)).unwrap();
+        assert_eq!(height, 250);
+        assert_eq!(board.narrow(), Ok(2));
+        assert_eq!(board.plan().unwrap().width, width - 2);
+        let refused = |one, other| {
+            let mut board = Board::empty();
+            board.load(&bytes_of(PASSED_OVER)).unwrap();
+            board.turn(one, other) == Err(Refusal(18))
+        };
+        assert!((4..33).any(|one| (4..one).any(|other| refused(one, other))));
+    }
 
     #[test]
     fn each_fails_its_own_item_alone() {

@@ -1,6 +1,6 @@
 //! Jobs of every sort: floors as they are, floors damaged in many ways, limits, and mere garbage. A third of them have least sizes.
 
-use crate::alone::undrawable;
+use crate::alone::{passed_over, undrawable};
 use crate::circle::{gap, inserting, kinds_of, list};
 use crate::misfits::{change_sizes, misfit};
 use crate::rounds::go_round_wrongly;
@@ -19,7 +19,8 @@ pub fn any_job(chance: &mut Chance) -> Vec<u8> {
         72..=79 => damaged_bytes(chance),
         80..=83 => misfit(chance),
         84..=85 => too_large(chance).bytes(),
-        86..=91 => scattered(chance).bytes(),
+        86 => passed_over(chance).bytes(),
+        87..=91 => scattered(chance).bytes(),
         92..=94 => garbage(chance),
         _ => at_the_limits(chance),
     }

@@ -1,5 +1,5 @@
-//! Puts many jobs and calls to the reference and to the built programs `calls`, `listing`, `doors`, `walls_list`, `cuts_list`, `draw`, `job_to_text` and
-//! `text_to_job`, and compares every line.
+//! Puts many jobs and calls to the reference and to the built programs `calls`, `listing`, `doors`, `walls_list`, `cuts_list`, `narrow_job`, `draw`,
+//! `job_to_text` and `text_to_job`, and compares every line.
 
 mod alone;
 mod circle;
@@ -32,7 +32,7 @@ use streams::{make_stream, Budget};
 use table::Table;
 
 const USAGE: &str = "differ [--short | --long] [--seed N] [--jobs N] [--calls N] [--pairs N] \
-    [--listings N] [--doors N] [--walls N] [--cuts N] [--pictures N] [--texts N] [--runner PATH] [--slip NAME] [--reference]";
+    [--listings N] [--doors N] [--walls N] [--cuts N] [--narrows N] [--pictures N] [--texts N] [--runner PATH] [--slip NAME] [--reference]";
 
 struct Options {
     seed: u64,
@@ -43,6 +43,7 @@ struct Options {
     doors: usize,
     walls: usize,
     cuts: usize,
+    narrows: usize,
     pictures: usize,
     texts: usize,
     under_test: UnderTest,
@@ -55,7 +56,7 @@ fn main() -> ExitCode {
     };
     let begun = Instant::now();
     println!(
-        "seed {}, {} jobs, {} other calls, {} pairs of starts, {} listings, {} lists of doors, {} of walls, {} of cuts, {} pictures, {} texts",
+        "seed {}, {} jobs, {} other calls, {} pairs of starts, {} listings, {} lists of doors, {} of walls, {} of cuts, {} narrowed, {} pictures, {} texts",
         options.seed,
         options.jobs,
         options.calls,
@@ -64,6 +65,7 @@ fn main() -> ExitCode {
         options.doors,
         options.walls,
         options.cuts,
+        options.narrows,
         options.pictures,
         options.texts
     );
@@ -74,6 +76,7 @@ fn main() -> ExitCode {
         && compare_told(&options, OneJob::Doors, options.doors, &mut table)
         && compare_told(&options, OneJob::Walls, options.walls, &mut table)
         && compare_told(&options, OneJob::Cuts, options.cuts, &mut table)
+        && compare_narrowed(&options, &mut table)
         && compare_pictures(&options, &mut table)
         && compare_texts(&options, &mut table);
     table.print();
@@ -101,6 +104,7 @@ fn read_options() -> Option<Options> {
         doors: 300,
         walls: 300,
         cuts: 300,
+        narrows: 300,
         pictures: 200,
         texts: 300,
         under_test: UnderTest::Runner("../bin/run".to_string()),
@@ -114,6 +118,7 @@ fn read_options() -> Option<Options> {
                 options.pairs = 10_000;
                 (options.listings, options.doors) = (3_000, 3_000);
                 (options.walls, options.cuts) = (3_000, 3_000);
+                options.narrows = 3_000;
                 (options.pictures, options.texts) = (2_000, 3_000);
             }
             "--seed" => options.seed = words.next()?.parse().ok()?,
@@ -124,6 +129,7 @@ fn read_options() -> Option<Options> {
             "--doors" => options.doors = words.next()?.parse().ok()?,
             "--walls" => options.walls = words.next()?.parse().ok()?,
             "--cuts" => options.cuts = words.next()?.parse().ok()?,
+            "--narrows" => options.narrows = words.next()?.parse().ok()?,
             "--pictures" => options.pictures = words.next()?.parse().ok()?,
             "--texts" => options.texts = words.next()?.parse().ok()?,
             "--runner" => options.under_test = UnderTest::Runner(words.next()?),
@@ -202,6 +208,21 @@ fn compare_told(options: &Options, program: OneJob, rounds: usize, table: &mut T
             println!("difference in {} of {} bytes:", program.name(), job.len());
             println!("  {}", hex(&job));
             println!("reference:\n{expected}program:\n{found}");
+            return false;
+        }
+    }
+    true
+}
+
+/// The job that the narrowing program writes, byte for byte.
+fn compare_narrowed(options: &Options, table: &mut Table) -> bool {
+    let mut chance = Chance::new(options.seed ^ 0x6e61_7272);
+    for round in 0..options.narrows {
+        let job = listing_job(&mut chance, round);
+        let expected = planner::narrowed(&mut Board::empty(), &job);
+        table.count_narrowed(&job, &expected);
+        let found = options.under_test.narrowed(&job);
+        if !same_text("a job narrowed", &job, &expected, &found) {
             return false;
         }
     }

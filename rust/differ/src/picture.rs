@@ -151,10 +151,7 @@ fn check_least(picture: &str, sheet: &Sheet, plan: &Plan, job: &Job) -> Result<(
             .map(|name| attribute(line, name))
             .collect();
         let blue = line.ends_with(" stroke=\"#1f4e9e\" stroke-width=\"2\"/>");
-        found.push(
-            ends.filter(|_| blue)
-                .ok_or(format!("a line: {line:.80}"))?,
-        );
+        found.push(ends.filter(|_| blue).ok_or(format!("a line: {line:.80}"))?);
     }
     let mut expected = Vec::new();
     for room in job.rooms() {

@@ -17,6 +17,7 @@ pub const STAR: u8 = 38;
 pub const WRITE_WALLS: u8 = 39;
 pub const SLICEABLE: u8 = 40;
 pub const WRITE_CUTS: u8 = 41;
+pub const NARROW: u8 = 42;
 
 pub const LARGEST_BUFFER: usize = 2_048;
 pub const LONGEST_JOB: usize = 8_192;
@@ -26,6 +27,7 @@ const UNTOUCHED: u8 = 0xAA;
 pub trait Planner {
     fn load(&mut self, bytes: &[u8]) -> Result<(usize, usize), Refusal>;
     fn turn(&mut self, one: usize, other: usize) -> Result<(usize, usize), Refusal>;
+    fn narrow(&mut self) -> Result<usize, Refusal>;
     fn rectangle(&self, vertex: usize) -> Result<Rectangle, Refusal>;
     fn touch(&self, one: usize, other: usize) -> Result<Option<Touch>, Refusal>;
     fn doors(&self) -> Result<Vec<Door>, Refusal>;
@@ -45,6 +47,9 @@ impl Planner for Board {
     }
     fn turn(&mut self, one: usize, other: usize) -> Result<(usize, usize), Refusal> {
         Board::turn(self, one, other)
+    }
+    fn narrow(&mut self) -> Result<usize, Refusal> {
+        Board::narrow(self)
     }
     fn rectangle(&self, vertex: usize) -> Result<Rectangle, Refusal> {
         Board::rectangle(self, vertex)
@@ -135,6 +140,10 @@ fn answer_call(planner: &mut dyn Planner, field: Field) -> Option<Answer> {
             let [one, other] = numbers(field.value)?;
             sheet(planner.turn(one, other))
         }
+        NARROW => {
+            let [] = numbers(field.value)?;
+            refused_or(planner.narrow(), |turns| format!("made {turns}"))
+        }
         RECTANGLE => {
             let [vertex] = numbers(field.value)?;
             refused_or(planner.rectangle(vertex), |r| {
@@ -224,6 +233,26 @@ fn written(planner: &mut dyn Planner, tag: u8, size: usize) -> Option<(Outcome, 
     Some(refused_or(answer, |length| {
         format!("wrote {length} {}", hex(&buffer))
     }))
+}
+
+/// All that the narrowing program writes for a job: the narrowed job.
+pub fn narrowed(planner: &mut dyn Planner, bytes: &[u8]) -> Vec<u8> {
+    if bytes.len() > LONGEST_JOB {
+        return b"input too long\n".to_vec();
+    }
+    match narrowed_job(planner, bytes) {
+        Ok(job) => job,
+        Err(refusal) => (refused(refusal).1 + "\n").into_bytes(),
+    }
+}
+
+fn narrowed_job(planner: &mut dyn Planner, bytes: &[u8]) -> Result<Vec<u8>, Refusal> {
+    planner.load(bytes)?;
+    planner.narrow()?;
+    let mut job = vec![0; LARGEST_BUFFER];
+    let length = planner.write_job(&mut job)?;
+    job.truncate(length);
+    Ok(job)
 }
 
 /// A program that reads one job.

@@ -1,6 +1,6 @@
 //! The planner under test: the built programs, or, to try the comparison itself, a planner with a known slip or with none.
 
-use crate::planner::{calls_text, OneJob};
+use crate::planner::{calls_text, narrowed, OneJob};
 use crate::slips::{Slip, SlippedBoard};
 use crate::texts::{job_of, text_of};
 use reference::Board;
@@ -42,6 +42,15 @@ impl UnderTest {
         match self {
             UnderTest::Runner(path) => Some(run(path, "draw", asked)),
             UnderTest::Slipped(_) | UnderTest::Reference => None,
+        }
+    }
+
+    /// A job narrowed.
+    pub fn narrowed(&self, job: &[u8]) -> Vec<u8> {
+        match self {
+            UnderTest::Runner(path) => run_bytes(path, "narrow_job", job),
+            UnderTest::Slipped(slip) => narrowed(&mut SlippedBoard::empty(*slip), job),
+            UnderTest::Reference => narrowed(&mut Board::empty(), job),
         }
     }
 

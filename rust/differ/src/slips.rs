@@ -142,6 +142,24 @@ pub enum Slip {
     FewerSizes,
     /// A field of another tag behind the stars is taken for the sizes.
     AnyTag,
+    /// The last contact that narrows is turned, not the first.
+    LastNarrows,
+    /// A turn that keeps the width counts as one that narrows.
+    WidthKept,
+    /// Narrowing stops after one round over the list of contacts.
+    OneRoundOver,
+    /// Narrowing stops after one turn.
+    OneTurn,
+    /// Contacts in the order of the room that lies lower, not of the lower number.
+    ByLowerLying,
+    /// Contacts to the right are turned as well.
+    SidewaysToo,
+    /// The register stays as it was before a narrowing.
+    RegisterKeptNarrow,
+    /// One turn more is told than was made, where any was.
+    OneTurnMore,
+    /// Nothing is narrowed where none is held, and 0 is told.
+    NothingNarrowed,
     /// In a text the height comes first, written and read.
     TextHeightFirst,
     /// A size of 1 by 1 is told in a text.
@@ -153,7 +171,7 @@ pub enum Slip {
 }
 
 /// Those that calls show.
-pub const ALL: [Slip; 64] = [
+pub const ALL: [Slip; 73] = [
     Slip::RoomsOnly,
     Slip::AreaAlone,
     Slip::NoArea,
@@ -218,6 +236,15 @@ pub const ALL: [Slip; 64] = [
     Slip::SizesTwice,
     Slip::FewerSizes,
     Slip::AnyTag,
+    Slip::LastNarrows,
+    Slip::WidthKept,
+    Slip::OneRoundOver,
+    Slip::OneTurn,
+    Slip::ByLowerLying,
+    Slip::SidewaysToo,
+    Slip::RegisterKeptNarrow,
+    Slip::OneTurnMore,
+    Slip::NothingNarrowed,
 ];
 
 /// Those that only texts show.
@@ -264,6 +291,17 @@ pub const OF_CUTS: [Slip; 5] = [
     Slip::OtherPartFirst,
     Slip::CutThroughRoom,
     Slip::PlaceFromRooms,
+];
+
+/// Those that a job narrowed by the program shows as well.
+#[cfg(test)]
+pub const OF_NARROWING: [Slip; 6] = [
+    Slip::LastNarrows,
+    Slip::WidthKept,
+    Slip::OneRoundOver,
+    Slip::OneTurn,
+    Slip::ByLowerLying,
+    Slip::SidewaysToo,
 ];
 
 /// Those of the sizes that the listing of one job shows as well.
@@ -462,6 +500,62 @@ impl SlippedBoard {
             _ => {}
         }
         found
+    }
+
+    /// The contacts that narrowing looks at, in its order.
+    fn contacts_above(&self, job: &Job) -> Vec<(usize, usize)> {
+        let mut contacts = Vec::new();
+        for room in job.rooms() {
+            for entry in job.star_of(room) {
+                let other = entry.neighbour;
+                let wanted =
+                    entry.kind == ABOVE || (entry.kind == RIGHT && self.slip == Slip::SidewaysToo);
+                if wanted && job.is_room(other) {
+                    contacts.push(match self.slip {
+                        Slip::ByLowerLying => (room, other),
+                        _ => (room.min(other), room.max(other)),
+                    });
+                }
+            }
+        }
+        contacts.sort();
+        if self.slip == Slip::LastNarrows {
+            contacts.reverse();
+        }
+        contacts
+    }
+
+    /// The job and plan after a turn that counts as one that narrows.
+    fn narrower(&self, job: &Job, width: usize, contact: (usize, usize)) -> Option<(Job, Plan)> {
+        let next = turned(job, contact.0, contact.1).ok()?;
+        let plan = self.draw(&next).ok()?;
+        let counts = plan.width < width || (plan.width == width && self.slip == Slip::WidthKept);
+        counts.then_some((next, plan))
+    }
+
+    /// A floor narrowed, and how many turns were made. A turn that keeps the width could go on for ever: there is an end to it here.
+    fn slim(&self, mut job: Job, mut plan: Plan) -> (Job, Plan, usize) {
+        let mut turns = 0;
+        let rounds = match self.slip {
+            Slip::OneTurn | Slip::OneRoundOver => 1,
+            _ => plan.width,
+        };
+        for _ in 0..rounds {
+            let before = turns;
+            for contact in self.contacts_above(&job) {
+                if let Some(next) = self.narrower(&job, plan.width, contact) {
+                    (job, plan) = next;
+                    turns += 1;
+                    if self.slip != Slip::OneRoundOver {
+                        break;
+                    }
+                }
+            }
+            if turns == before {
+                break;
+            }
+        }
+        (job, plan, turns)
     }
 
     /// How two rectangles touch.
@@ -791,6 +885,19 @@ impl Planner for SlippedBoard {
             self.held = Some((job, plan));
         }
         Ok(sheet)
+    }
+
+    fn narrow(&mut self) -> Result<usize, Refusal> {
+        if self.slip == Slip::NothingNarrowed && self.held.is_none() {
+            return Ok(0);
+        }
+        let (job, plan) = self.held()?.clone();
+        let (job, plan, turns) = self.slim(job, plan);
+        if turns > 0 && self.slip != Slip::RegisterKeptNarrow {
+            self.walled = Some(plan.clone());
+        }
+        self.held = Some((job, plan));
+        Ok(turns + usize::from(turns > 0 && self.slip == Slip::OneTurnMore))
     }
 
     fn rectangle(&self, vertex: usize) -> Result<Rectangle, Refusal> {

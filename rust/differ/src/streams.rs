@@ -1,13 +1,14 @@
 //! Streams of calls, made while the reference answers them, so that later calls can aim at what is held.
 
 use crate::damage::any_job;
-use crate::planner::{answer_stream, Outcome, LARGEST_BUFFER, LOAD, RECTANGLE, SLICEABLE, STAR};
+use crate::planner::{answer_stream, Answer, Outcome, LARGEST_BUFFER, LOAD, NARROW, RECTANGLE};
+use crate::planner::{SLICEABLE, STAR};
 use crate::planner::{TOUCH, TURN, WRITE_CUTS, WRITE_JOB, WRITE_PLAN, WRITE_WALLS};
 use crate::proofread::plan_fault;
 use crate::table::Table;
 use floors::{Chance, LARGEST_SHEET, LARGEST_SIZE};
 use reference::fields::put_field;
-use reference::{drawing, job, register, walls, Board, Refusal, FIRST_ROOM};
+use reference::{drawing, job, register, walls, Board, Refusal, ABOVE, FIRST_ROOM};
 
 /// A stream in pieces: whole calls, and at the end perhaps one piece that breaks it.
 pub struct Stream {
@@ -82,7 +83,8 @@ impl Maker {
             };
         }
         match chance.below(100) {
-            0..=39 => self.turn(chance),
+            0..=35 => self.turn(chance),
+            36..=39 => call(NARROW, &[]),
             40..=51 => call(RECTANGLE, &two(self.some_vertex(chance))),
             52..=68 => self.touch(chance),
             69..=74 => self.writing(chance, WRITE_JOB),
@@ -106,7 +108,7 @@ impl Maker {
             self.stream.expected.push('\n');
         }
         if let [answer] = answers.as_slice() {
-            self.check(answer.tag, answer.outcome, before, &piece, table);
+            self.check(answer, before, &piece, table);
         }
         if broken {
             self.stream.expected.push_str("broken stream\n");
@@ -115,8 +117,9 @@ impl Maker {
         self.stream.pieces.push(piece);
     }
 
-    fn check(&mut self, tag: u8, outcome: Outcome, before: Board, piece: &[u8], table: &mut Table) {
-        let changes_plan = (tag == LOAD || tag == TURN) && outcome == Outcome::Accepted;
+    fn check(&mut self, answer: &Answer, before: Board, piece: &[u8], table: &mut Table) {
+        let (tag, outcome) = (answer.tag, answer.outcome);
+        let changes_plan = [LOAD, TURN, NARROW].contains(&tag) && outcome == Outcome::Accepted;
         if !changes_plan {
             assert!(
                 self.board == before,
@@ -140,6 +143,16 @@ impl Maker {
             self.last_turn = None;
             return;
         }
+        if tag == NARROW {
+            let turns = self.check_narrowed(&before);
+            assert!(
+                answer.line == format!("made {turns}"),
+                "other turns are told"
+            );
+            table.count_slimmed(turns);
+            self.last_turn = None;
+            return;
+        }
         if let Some((rooms, earlier)) = &self.last_turn {
             if same_rooms(rooms, piece) {
                 assert!(*earlier == self.board, "a turn made again did not go back");
@@ -147,6 +160,33 @@ impl Maker {
             }
         }
         self.last_turn = Some((piece.to_vec(), before));
+    }
+
+    /// W10's own claims, of a narrowing just made: the same pairs, the same sizes, narrower by 1 for each turn, and no turn of a room that lies above
+    /// another narrows it further. How many turns were made.
+    fn check_narrowed(&self, before: &Board) -> usize {
+        let (was, old) = (before.job().expect("held"), before.plan().expect("held"));
+        let (job, plan) = (
+            self.board.job().expect("held"),
+            self.board.plan().expect("held"),
+        );
+        let pairs = |job: &job::Job| -> Vec<Vec<usize>> {
+            let stars = job.stars.iter();
+            stars
+                .map(|star| star.iter().map(|entry| entry.neighbour).collect())
+                .collect()
+        };
+        assert!(pairs(was) == pairs(job), "narrowing joins other pairs");
+        assert!(was.sizes == job.sizes, "narrowing changes the sizes");
+        for room in job.rooms() {
+            for entry in job.star_of(room).iter().filter(|entry| entry.kind == ABOVE) {
+                let mut again = self.board.clone();
+                let turned = again.turn(room, entry.neighbour);
+                let narrower = turned.is_ok_and(|(width, _)| width < plan.width);
+                assert!(!narrower, "a turn is left that narrows");
+            }
+        }
+        old.width - plan.width
     }
 
     fn some_vertex(&self, chance: &mut Chance) -> usize {
@@ -319,7 +359,7 @@ fn breaking_tail(chance: &mut Chance) -> Vec<u8> {
             cut(chance, call(LOAD, &bytes))
         }
         2 => call(
-            *chance.pick(&[0, 1, 2, 31, 42, 255, 32 + 128]),
+            *chance.pick(&[0, 1, 2, 31, 43, 255, 32 + 128]),
             &four(4, 5)[..chance.below(5)],
         ),
         3 => call(
@@ -335,7 +375,10 @@ fn breaking_tail(chance: &mut Chance) -> Vec<u8> {
             *chance.pick(&[WRITE_JOB, WRITE_PLAN, WRITE_WALLS, WRITE_CUTS]),
             &two(*chance.pick(&[2_049, 2_050, 4_096, 65_535])),
         ),
-        7 => call(SLICEABLE, &[0, 0][..chance.between(1, 2)]),
+        7 => call(
+            *chance.pick(&[SLICEABLE, NARROW]),
+            &[0, 0][..chance.between(1, 2)],
+        ),
         _ => (0..chance.between(1, 12)).map(|_| chance.byte()).collect(),
     };
     for _ in 0..chance.below(3) {

@@ -1,7 +1,7 @@
 //! How often each answer was seen.
 
 use crate::picture::Marked;
-use crate::planner::{OneJob, Outcome, LOAD, RECTANGLE, SLICEABLE, STAR, TOUCH, TURN};
+use crate::planner::{OneJob, Outcome, LOAD, NARROW, RECTANGLE, SLICEABLE, STAR, TOUCH, TURN};
 use crate::planner::{WRITE_CUTS, WRITE_JOB, WRITE_PLAN, WRITE_WALLS};
 use reference::drawing::Faults;
 use std::collections::BTreeMap;
@@ -23,13 +23,18 @@ pub struct Table {
     pictures: BTreeMap<String, u64>,
     /// Texts, by what was asked and by what came of it.
     texts: BTreeMap<String, u64>,
+    /// Narrowings on a board, by how many turns they made.
+    slimmed: BTreeMap<usize, u64>,
+    /// Jobs narrowed by the program, by what came of it.
+    narrowed: BTreeMap<String, u64>,
     pub turned_back: u64,
     pub plans_checked: u64,
 }
 
-const CALLS: [(u8, &str); 10] = [
+const CALLS: [(u8, &str); 11] = [
     (LOAD, "load"),
     (TURN, "turn"),
+    (NARROW, "narrow"),
     (RECTANGLE, "rectangle"),
     (TOUCH, "touch"),
     (WRITE_JOB, "write job"),
@@ -80,6 +85,19 @@ impl Table {
         *self.told.entry(key).or_default() += 1;
     }
 
+    pub fn count_slimmed(&mut self, turns: usize) {
+        *self.slimmed.entry(turns).or_default() += 1;
+    }
+
+    pub fn count_narrowed(&mut self, job: &[u8], told: &[u8]) {
+        let name = match first_words(&String::from_utf8_lossy(told)).as_str() {
+            "accepted" if job == told => "as it was".to_string(),
+            "accepted" => "narrowed".to_string(),
+            other => other.to_string(),
+        };
+        *self.narrowed.entry(name).or_default() += 1;
+    }
+
     pub fn count_picture(&mut self, marked: Marked, text: &str) {
         let with = match marked {
             Marked::Walls => "",
@@ -104,6 +122,7 @@ impl Table {
         let calls = self.seen.values().chain(self.told.values());
         calls
             .chain(self.pairs.values())
+            .chain(self.narrowed.values())
             .chain(self.pictures.values())
             .chain(self.texts.values())
             .sum()
@@ -178,6 +197,12 @@ impl Table {
             self.streams, self.broken_streams, self.plans_checked, self.turned_back
         );
         println!("loads with sizes: {}", in_words(&self.sized_in_words()));
+        let turns = self
+            .slimmed
+            .iter()
+            .map(|(n, count)| (n.to_string(), *count));
+        println!("narrowings by turns made: {}", in_words(&turns.collect()));
+        println!("narrow_job: {}", in_words(&self.narrowed));
         println!("pairs of starts: {}", in_words(&self.pairs));
         for (program, counts) in self.by_program() {
             println!("{program}: {}", in_words(&counts));

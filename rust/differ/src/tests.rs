@@ -4,11 +4,13 @@ use crate::damage::finished_floor;
 use crate::listing_job;
 use crate::pairs::first_unlike;
 use crate::picture::{listing_shown, Marked};
-use crate::planner::OneJob;
+use crate::planner::{narrowed, OneJob};
 use crate::programs::UnderTest;
 use crate::proofread::plan_fault;
 use crate::shrink::{both_texts, Shrinker};
-use crate::slips::{Slip, ALL, OF_CUTS, OF_SIZES, OF_STARTS, OF_TEXTS, OF_TOUCHES, OF_WALLS};
+use crate::slips::{
+    Slip, ALL, OF_CUTS, OF_NARROWING, OF_SIZES, OF_STARTS, OF_TEXTS, OF_TOUCHES, OF_WALLS,
+};
 use crate::streams::{make_stream, Budget};
 use crate::table::Table;
 use crate::texts::{damaged_text, job_of, text_of};
@@ -65,7 +67,7 @@ fn a_slip_of_starts_is_found_without_the_reference() {
 /// Whether a program of one job prints something else for some job.
 fn told_otherwise(under_test: &UnderTest, program: OneJob) -> bool {
     let mut chance = Chance::new(11);
-    (0..3_000).any(|round| {
+    (0..6_000).any(|round| {
         let job = listing_job(&mut chance, round);
         under_test.told(program, &job) != program.text(&mut Board::empty(), &job)
     })
@@ -93,6 +95,24 @@ fn a_slip_of_walls_is_found_in_the_joiners_list() {
 #[test]
 fn a_slip_of_sizes_is_found_in_the_listing() {
     slips_show(&OF_SIZES, OneJob::Listing);
+}
+
+/// Whether the narrowing program writes something else for some job.
+fn narrowed_otherwise(under_test: &UnderTest) -> bool {
+    let mut chance = Chance::new(11);
+    (0..3_000).any(|round| {
+        let job = listing_job(&mut chance, round);
+        under_test.narrowed(&job) != narrowed(&mut Board::empty(), &job)
+    })
+}
+
+#[test]
+fn a_slip_of_narrowing_is_found_in_the_narrowed_job() {
+    for slip in OF_NARROWING {
+        let found = narrowed_otherwise(&UnderTest::Slipped(slip));
+        assert!(found, "{slip:?} is not found");
+    }
+    assert!(!narrowed_otherwise(&UnderTest::Reference));
 }
 
 /// Whether some job has another text, or some text another job.

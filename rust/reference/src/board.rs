@@ -6,7 +6,7 @@ use crate::drawing::{draw, touch, Plan, Rectangle, Touch};
 use crate::job::{read, Job};
 use crate::register::{self, register, Wall};
 use crate::turning::turned;
-use crate::{refusal, Refusal};
+use crate::{refusal, Refusal, ABOVE};
 
 #[derive(Clone, Debug, Default, PartialEq, Eq)]
 pub struct Board {
@@ -37,6 +37,37 @@ impl Board {
     pub fn turn(&mut self, one: usize, other: usize) -> Result<Sheet, Refusal> {
         let job = turned(&self.held()?.job, one, other)?;
         self.hold(job)
+    }
+
+    /// Again and again the first room contact of kind 0, by lower-numbered room and then the other, whose turn is accepted and makes the sheet narrower is
+    /// turned, until there is none; how many turns were made. Only 10 is given: a turn that is refused is passed over.
+    pub fn narrow(&mut self) -> Result<usize, Refusal> {
+        let mut turns = 0;
+        while let Some(narrower) = self.narrower()? {
+            *self = narrower;
+            turns += 1;
+        }
+        Ok(turns)
+    }
+
+    /// The board after the first turn that makes the sheet narrower, if there is one.
+    fn narrower(&self) -> Result<Option<Board>, Refusal> {
+        let held = self.held()?;
+        let mut contacts: Vec<(usize, usize)> = Vec::new();
+        for room in held.job.rooms() {
+            for entry in held.job.star_of(room) {
+                if entry.kind == ABOVE && held.job.is_room(entry.neighbour) {
+                    contacts.push((room.min(entry.neighbour), room.max(entry.neighbour)));
+                }
+            }
+        }
+        contacts.sort();
+        let turned = contacts.into_iter().filter_map(|(one, other)| {
+            let mut board = self.clone();
+            board.turn(one, other).ok().map(|(width, _)| (board, width))
+        });
+        let narrower = turned.filter(|(_, width)| *width < held.plan.width);
+        Ok(narrower.map(|(board, _)| board).next())
     }
 
     pub fn rectangle(&self, vertex: usize) -> Result<Rectangle, Refusal> {

@@ -1103,3 +1103,14 @@ fn a_refused_load_of_sizes_keeps_the_held_plan() {
     assert_eq!(board.load(&bytes(F)), Ok((4, 5)));
     assert_eq!(board, loaded(&bytes(F)));
 }
+
+#[test]
+fn a_floor_is_narrowed_until_no_turn_narrows_it() {
+    assert_eq!(Board::empty().narrow(), Err(Refusal(10)));
+    let mut board = loaded(&bytes(F));
+    assert_eq!(board.narrow(), Ok(0));
+    assert_eq!(written(&board), bytes(F));
+    assert_eq!(board.turn(5, 6), Ok((5, 4)));
+    assert_eq!(board.narrow(), Ok(1));
+    assert_eq!(written(&board), bytes(F));
+}

@@ -1,7 +1,8 @@
 //! The zone planner for Rust programs: safe functions over the proved static library. No state is kept between two calls.
 //!
-//! `plan_into`, `walls_into`, `cuts_into`, `turned_into` and `star_into` write to a lent buffer and tell the length: the front is filled, what lies behind
-//! stays as it was, and a refusal leaves every byte. `plan`, `walls`, `cuts`, `turned` and `star` bring a buffer that always suffices.
+//! `plan_into`, `walls_into`, `cuts_into`, `turned_into` and `star_into` write to a lent buffer and tell the length, `narrowed_into` how many turns it made:
+//! the front is filled, what lies behind stays as it was, and a refusal leaves every byte. `plan`, `walls`, `cuts`, `turned`, `narrowed` and `star` bring a
+//! buffer that always suffices.
 
 /// The number of a refusal, 1 to 15, 17 or 18; 8 is not used.
 #[derive(Clone, Copy, Debug, PartialEq, Eq)]
@@ -62,6 +63,13 @@ mod library {
             out_length: usize,
         ) -> usize;
 
+        pub fn tirunoiwa_narrow(
+            job: *const u8,
+            job_length: usize,
+            out: *mut u8,
+            out_length: usize,
+        ) -> usize;
+
         pub fn tirunoiwa_star(
             job: *const u8,
             job_length: usize,
@@ -92,6 +100,23 @@ pub fn cuts(job: &[u8]) -> Result<Vec<u8>, Refusal> {
 /// The job with the contact of two rooms turned, and with the least sizes that it came with.
 pub fn turned(job: &[u8], u: usize, v: usize) -> Result<Vec<u8>, Refusal> {
     written(JOB_MOST, |out| turned_into(job, u, v, out))
+}
+
+/// A job made narrower by turns.
+#[derive(Clone, Debug, PartialEq, Eq)]
+pub struct Narrowed {
+    /// The job that they come to, as long as the one that came in.
+    pub job: Vec<u8>,
+    /// How many were made: the sheet is narrower by as many cells.
+    pub turns: usize,
+}
+
+/// The job made narrower by turns, one behind the other, until no single turn of two rooms, one above the other, makes it narrower.
+pub fn narrowed(job: &[u8]) -> Result<Narrowed, Refusal> {
+    let mut bytes = vec![0; JOB_MOST];
+    let turns = narrowed_into(job, &mut bytes)?;
+    bytes.truncate(job.len());
+    Ok(Narrowed { job: bytes, turns })
 }
 
 /// The bytes of a room's star; none where the bytes fail test 1 or 2 or have no such room.
@@ -142,6 +167,14 @@ pub fn turned_into(job: &[u8], u: usize, v: usize, out: &mut [u8]) -> Result<usi
     let answer = unsafe {
         library::tirunoiwa_turned(job.as_ptr(), job.len(), u, v, out.as_mut_ptr(), out.len())
     };
+    value(answer)
+}
+
+/// The narrowed job, written to the front of a lent buffer, as long as the job that came in; how many turns were made.
+pub fn narrowed_into(job: &[u8], out: &mut [u8]) -> Result<usize, Refusal> {
+    // SAFETY: both are slices, so the pointers are not null and valid for the lengths; `out` is lent alone, so `job` does not overlap it.
+    let answer =
+        unsafe { library::tirunoiwa_narrow(job.as_ptr(), job.len(), out.as_mut_ptr(), out.len()) };
     value(answer)
 }
 

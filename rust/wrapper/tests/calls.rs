@@ -1,7 +1,7 @@
 //! Calls each function of the static library from Rust. Every byte of a lent buffer is looked at, behind what was written too.
 
-use tirunoiwa::{cuts, plan, star, touch, turned, walls};
-use tirunoiwa::{cuts_into, plan_into, star_into, turned_into, walls_into};
+use tirunoiwa::{cuts, narrowed, plan, star, touch, turned, walls, Narrowed};
+use tirunoiwa::{cuts_into, narrowed_into, plan_into, star_into, turned_into, walls_into};
 use tirunoiwa::{Refusal, Touch, CUTS_MOST, JOB_MOST, PLAN_MOST, WALLS_MOST};
 
 const MOST: usize = 1100;
@@ -282,6 +282,32 @@ fn cuts_are_refused() {
     refuses(MOST, 1, |out| cuts_into(P3, out));
     refuses(0, 9, |out| cuts_into(P10, out));
     assert_eq!(cuts(PINWHEEL), Err(Refusal(15)));
+}
+
+/// F turned is narrowed by one turn, and is F again; F is as narrow as it gets. With sizes, F turned is the narrower one, and stays.
+#[test]
+fn narrowed_jobs_are_written() {
+    let so = |job: &[u8], turns| {
+        let job = job.to_vec();
+        Ok(Narrowed { job, turns })
+    };
+    assert_eq!(narrowed(P9), so(F, 1));
+    assert_eq!(narrowed(F), so(F, 0));
+    let sized = |job: &[u8]| [job, SIZES].concat();
+    assert_eq!(narrowed(&sized(P9)), so(&sized(P9), 0));
+    let mut lent = [0xAA; 100];
+    assert_eq!(narrowed_into(P9, &mut lent), Ok(1));
+    assert_eq!(lent[..F.len()], *F);
+    assert!(lent[F.len()..].iter().all(|&byte| byte == 0xAA));
+}
+
+#[test]
+fn refused_narrowings_leave_the_buffer() {
+    refuses(F.len() - 1, 14, |out| narrowed_into(P9, out));
+    refuses(0, 14, |out| narrowed_into(F, out));
+    refuses(MOST, 1, |out| narrowed_into(P3, out));
+    refuses(0, 9, |out| narrowed_into(P10, out));
+    assert_eq!(narrowed(P10), Err(Refusal(9)));
 }
 
 #[test]

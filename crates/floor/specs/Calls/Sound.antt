@@ -1,5 +1,5 @@
 -- What a board holds after any calls: a job past tests 2 to 6 and 17, drawn. And what one call does to the board and to the lent buffer. Assumes nothing.
-use Prim.Native.Nat.{ℕ, _<_}
+use Prim.Native.Nat.{ℕ, zero, suc, _<_}
 use mathlib.Core.Path.{_≡_, refl, sym, ap, _∙_, subst}
 use mathlib.Core.Bool.{Bool, true, false}
 use mathlib.Core.Option.{Option, none, some}
@@ -20,8 +20,9 @@ use Rattle.floor.specs.Cuts.{Tree, writeTree, planTree}
 use Rattle.floor.specs.Registers.{register, writeRegister}
 use Rattle.floor.specs.Turns.{turn, Kept, turnedBy, turnedWith}
 use Rattle.floor.specs.Turns.Restore.{asked, turned-keeps}
-use Rattle.floor.specs.Calls.{load, Board, empty, holding, Call, loads, turns, rectangle, writesJob, writesPlan, Reply, refuse, after, asks, writes, step}
-use Rattle.floor.specs.Calls.{run, touches, writesRegister, slices, writesCuts, writesTree}
+use Rattle.floor.specs.Narrow.{turnNarrows, firstPair, Search, nothing, pair, turnFound, narrowOnce, onward, rounds, narrowed}
+use Rattle.floor.specs.Calls.{load, Board, empty, holding, Call, loads, turns, narrows, rectangle, writesJob, writesPlan, Reply, refuse, after, asks, writes, step}
+use Rattle.floor.specs.Calls.{slims, run, touches, writesRegister, slices, writesCuts, writesTree}
 
 -- WHAT IS HELD: a job past tests 2 to 6 and 17, with as many sizes as rooms, if any, and its own drawing
 pub record Sound (o : SizedJob) (p : Plan) : Type 0 where
@@ -120,6 +121,25 @@ turn-held o p u v i q s h =
       is-drawn = r;
     })
 
+-- NARROWING keeps what is held sound: it makes nothing but turns
+pub once-sound : (o : SizedJob) (p : Plan) → Sound o p → (i : SizedJob) (q : Plan) → narrowOnce o p ≡ held i q → Sound i q
+unfolding narrowOnce
+once-sound o p s i q e = found (firstPair (turnNarrows o (p .width)) 4 (length (o .stars))) e
+  where
+    found : (x : Search) → turnFound o x ≡ held i q → Sound i q
+    found nothing e = unfold turnFound in not-held e
+    found (pair u v) e = unfold turnFound in turn-held o p u v i q s e
+
+rounds-sound : (f : ℕ) (o : SizedJob) (p : Plan) → Sound o p → Sound (rounds f o p .job) (rounds f o p .plan)
+unfolding rounds
+rounds-sound zero o p s = s
+rounds-sound (suc f) o p s = go (narrowOnce o p) refl (rounds-sound f)
+  where
+    go : (a : Answer) → narrowOnce o p ≡ a → ((i : SizedJob) (q : Plan) → Sound i q → Sound (rounds f i q .job) (rounds f i q .plan))
+        → Sound (onward o p a (λ i q. rounds f i q) .job) (onward o p a (λ i q. rounds f i q) .plan)
+    go (refused k) e below = unfold onward in s
+    go (held i q) e below = unfold onward in below i q (once-sound o p s i q e)
+
 -- ONE CALL leaves a sound board sound
 after-sound : (b : Board) (r : Answer) → SoundBoard b → ((o : SizedJob) (p : Plan) → r ≡ held o p → Sound o p) → SoundBoard (after b r .board)
 unfolding after refuse
@@ -146,12 +166,13 @@ tree-board b (some t) buf = writes-board b _ (writeTree t) buf
 
 -- any one call leaves a sound board sound
 pub step-sound : (b : Board) (c : Call) → SoundBoard b → SoundBoard (step b c .board)
-unfolding step refuse
+unfolding step refuse slims narrowed
 step-sound b (loads bs) s = load-sound b s
   where
     load-sound : (b : Board) → SoundBoard b → SoundBoard (after b (load bs) .board)
     load-sound b s = after-sound b (load bs) s (λ j p e. load-held bs j p e .1)
 step-sound empty (turns u v) s = s
+step-sound empty narrows s = s
 step-sound empty (rectangle v) s = s
 step-sound empty (touches u v) s = s
 step-sound empty (writesJob buf) s = s
@@ -160,6 +181,7 @@ step-sound empty (writesRegister buf) s = s
 step-sound empty slices s = s
 step-sound empty (writesCuts buf) s = s
 step-sound (holding i q) (turns u v) s = after-sound (holding i q) (turn i u v) s (λ j p e. turn-held i q u v j p s e)
+step-sound (holding i q) narrows s = rounds-sound (q .width) i q s
 step-sound (holding i q) (rectangle v) s = rw (asks-board (holding i q) _ _) s
 step-sound (holding i q) (touches u v) s = rw (asks-board (holding i q) _ _) s
 step-sound (holding i q) (writesJob buf) s = rw (writes-board (holding i q) _ (writeSized i) buf) s

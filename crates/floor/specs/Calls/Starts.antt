@@ -27,10 +27,11 @@ use Rattle.floor.specs.Registers.{register, writeRegister}
 use Rattle.floor.specs.Turns.{turned, turningAt, turningFrom, inContact, turning, turn, turnedBy}
 use Rattle.floor.specs.Turns.Swing.{last-restarted, restart-turned, length-listOf}
 use Rattle.floor.specs.Turns.Restore.{turnable, turned-keeps}
-use Rattle.floor.specs.Calls.{load, Board, empty, holding, Call, loads, turns, rectangle, writesJob, writesPlan, Reply, wrote, refuse, BoardsAlike}
+use Rattle.floor.specs.Narrow.{stacked, narrower, turnNarrows, firstPair, Search, nothing, pair, turnFound, narrowOnce, onward, rounds, narrowed, Slim}
+use Rattle.floor.specs.Calls.{load, Board, empty, holding, Call, loads, turns, narrows, rectangle, writesJob, writesPlan, Reply, wrote, refuse, BoardsAlike}
 use Rattle.floor.specs.Calls.{StepsAlike, both-empty, both-hold, after, asks, writes, step, run, touches, writesRegister, slices, writesCuts, writesTree}
-use Rattle.floor.specs.Calls.{Step}
-use Rattle.floor.specs.Calls.Sound.{Sound, SoundBoard, sound-good, step-sound}
+use Rattle.floor.specs.Calls.{Step, made, slims}
+use Rattle.floor.specs.Calls.Sound.{Sound, SoundBoard, sound-good, once-sound, step-sound}
 use Rattle.floor.specs.Calls.Exact.{kind-found}
 
 -- WHAT JOBS THAT DIFFER ONLY IN THEIR STARTS HAVE IN COMMON
@@ -430,6 +431,52 @@ boards-itself : (b : Board) → BoardsAlike b b
 boards-itself empty = both-empty
 boards-itself (holding o p) = both-hold (itself o)
 
+-- NARROWING of two such: as many turns, and one plan
+record SlimsAlike (a b : Slim) : Type 0 where
+  as-many : a .turns ≡ b .turns
+  plans : a .plan ≡ b .plan
+  jobs : SameButStarts (a .job) (b .job)
+
+narrower-alike : (w : ℕ) {r q : Answer} → Alike r q → narrower w r ≡ narrower w q
+unfolding narrower
+narrower-alike w one-refusal = refl
+narrower-alike w (one-plan o) = refl
+
+stacked-same : {j i : Job} → OnlyStarts j i → (u v : ℕ) → stacked j u v ≡ stacked i u v
+unfolding stacked
+stacked-same o u v = rw (lists-same o u v 0, lists-same o u v 2)
+
+module _ {o i : SizedJob} (x : SameButStarts o i) (p : Plan) (s : Sound o p) (t : Sound i p) where
+  narrows-same : turnNarrows o (p .width) ≡ turnNarrows i (p .width)
+  unfolding turnNarrows
+  narrows-same = fun-ext (λ u. fun-ext (λ v. rw (stacked-same (stars-of x) u v, narrower-alike (p .width) (turn-alike x p p s t u v))))
+
+  found-alike : (f : Search) → Alike (turnFound o f) (turnFound i f)
+  unfolding turnFound
+  found-alike nothing = one-refusal
+  found-alike (pair u v) = turn-alike x p p s t u v
+
+  once-alike : Alike (narrowOnce o p) (narrowOnce i p)
+  unfolding narrowOnce
+  once-alike = rw (narrows-same, starts-length (stars-of x)) (found-alike (firstPair (turnNarrows i (p .width)) 4 (length (i .stars))))
+
+rounds-alike : (f : ℕ) (h l : SizedJob) → SameButStarts h l → (r : Plan) → Sound h r → Sound l r → SlimsAlike (rounds f h r) (rounds f l r)
+unfolding rounds
+rounds-alike zero h l x r s t = record { as-many = refl; plans = refl; jobs = x }
+rounds-alike (suc f) h l x r s t = go (narrowOnce h r) (narrowOnce l r) refl refl (once-alike x r s t) (rounds-alike f)
+  where
+    go : (a b : Answer) → narrowOnce h r ≡ a → narrowOnce l r ≡ b → Alike a b
+        → ((o i : SizedJob) → SameButStarts o i → (q : Plan) → Sound o q → Sound i q → SlimsAlike (rounds f o q) (rounds f i q))
+        → SlimsAlike (onward h r a (λ o q. rounds f o q)) (onward l r b (λ o q. rounds f o q))
+    go a b ea eb one-refusal below = unfold onward in record { as-many = refl; plans = refl; jobs = x }
+    go a b ea eb (one-plan {o} {i} {p} y) below = unfold onward in
+        let n : SlimsAlike (rounds f o p) (rounds f i p) = below o i y p (once-sound h r s o p ea) (once-sound l r t i p eb) in
+        record { as-many = ap suc (n .as-many); plans = n .plans; jobs = n .jobs }
+
+slims-alike : (a b : Slim) → SlimsAlike a b → StepsAlike (slims a) (slims b)
+unfolding slims
+slims-alike a b r = record { one-reply = ap made (r .as-many); boards = rw (r .plans) (both-hold (r .jobs)) }
+
 -- such jobs loaded into one board
 pub loaded-alike : (b : Board) (bs cs : List ℕ) (o i : SizedJob) → readJob bs ≡ reads o → readJob cs ≡ reads i → SameButStarts o i
     → BoardsAlike (step b (loads bs) .board) (step b (loads cs) .board)
@@ -444,6 +491,7 @@ step-alike {b} {c} (loads bs) s t x = loaded b c x
     loaded : (b c : Board) → BoardsAlike b c → StepsAlike (after b (load bs)) (after c (load bs))
     loaded b c x = after-alike b c x (answer-itself (load bs))
 step-alike (turns u v) s t both-empty = record { one-reply = refl; boards = both-empty }
+step-alike narrows s t both-empty = record { one-reply = refl; boards = both-empty }
 step-alike (rectangle v) s t both-empty = record { one-reply = refl; boards = both-empty }
 step-alike (touches u v) s t both-empty = record { one-reply = refl; boards = both-empty }
 step-alike (writesJob buf) s t both-empty = record { one-reply = refl; boards = both-empty }
@@ -453,6 +501,8 @@ step-alike slices s t both-empty = record { one-reply = refl; boards = both-empt
 step-alike (writesCuts buf) s t both-empty = record { one-reply = refl; boards = both-empty }
 step-alike (turns u v) s t (both-hold {o} {i} {p} x) =
     after-alike (holding o p) (holding i p) (both-hold x) (turn-alike x p p s t u v)
+step-alike narrows s t (both-hold {o} {i} {p} x) =
+    slims-alike (narrowed o p) (narrowed i p) (unfold narrowed in rounds-alike (p .width) o i x p s t)
 step-alike (rectangle v) s t (both-hold {o} {i} {p} x) =
     asks-alike (holding o p) (holding i p) _ _ _ (vertex-same (stars-of x) v) (both-hold x)
 step-alike (touches u v) s t (both-hold {o} {i} {p} x) =

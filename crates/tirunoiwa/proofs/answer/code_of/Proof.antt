@@ -1,6 +1,6 @@
 use Rattle.floor.specs.Tracker.{code}
 use Rattle.board.specs.Boards.{replyOf}
-use Rattle.tirunoiwa.proofs.Codes.{wrote-fits, code-touched, code-says, code-wrote}
+use Rattle.tirunoiwa.proofs.Codes.{wrote-fits, made-fits, code-touched, code-says, code-wrote, code-made}
 use borrow.Author.Needs.{needs}
 use Rattle.tirunoiwa.proofs.answer.code_of.Statement.{statement}
 use Rattle.tirunoiwa.proofs.answer.code_of.Tie as tie
@@ -41,6 +41,12 @@ enum-known-reply-4 c = search needs
 add-result-3 : tie.Need-add-result-3
 add-result-3 c = search (wrote-fits, needs)
 
+enum-known-reply-5 : tie.Need-enum-known-reply-5
+enum-known-reply-5 c = search needs
+
+add-result-4 : tie.Need-add-result-4
+add-result-4 c = search (made-fits, needs)
+
 returns : tie.Need-returns
 unfolding code replyOf
 returns c = search needs
@@ -62,6 +68,9 @@ returns-5 c = search (code-says, needs)
 returns-6 : tie.Need-returns-6
 returns-6 c = search (code-wrote, needs)
 
+returns-7 : tie.Need-returns-7
+returns-7 c = search (code-made, needs)
+
 pub code-of-spec : {M : Type 1} → statement M
 code-of-spec =
     tie.close
@@ -78,9 +87,12 @@ code-of-spec =
     add-result-2
     enum-known-reply-4
     add-result-3
+    enum-known-reply-5
+    add-result-4
     returns
     returns-2
     returns-3
     returns-4
     returns-5
-    returns-6)
+    returns-6
+    returns-7)

@@ -1,0 +1,5 @@
+mod Stacking
+mod Copying
+mod Trying
+mod Searching
+pub mod Corollaries

@@ -1,0 +1,2 @@
+pub mod Slims
+pub mod Rounds
