@@ -11,10 +11,11 @@
  *    5  not a star                          13  no such vertex
  *    6  a contact that one room lacks       14  the buffer is too short
  *   17  a least size outside 1 to 15, or    15  no straight cuts take the floor apart
- *       all of them 1                       18  the sheet is over 250 cells wide or high
+ *       all of them 1                       16  not the bytes of a plan of the job's vertices
+ *                                           18  the sheet is over 250 cells wide or high
  * 8 is not used. Of a job's refusals the first is told, in the order 1, 2, 1, 3, 4, 5, 6, 17, 7, 18, 9: of the first field, the number of rooms, the other
  * fields, and so on.
- * From 256 on it is 256 plus a value: the number of bytes written, how two vertices touch, or how many turns were made.
+ * From 256 on it is 256 plus a value: the number of bytes written, how two vertices touch, how many turns were made, or 1 for yes and 0 for no.
  *
  * tirunoiwa_share, which told yes or no, is gone; tirunoiwa_touch stands in its place, and tells no wall exactly where it told no.
  *
@@ -83,6 +84,13 @@ size_t tirunoiwa_star(const uint8_t *job, size_t job_length, size_t room, uint8_
  * on which v stands, seen from u: 0 above, 1 to the left, 2 below, 3 to the right; or 1 to 7, 9, 13, 17, 18. The length is at least 1.
  */
 size_t tirunoiwa_touch(const uint8_t *job, size_t job_length, size_t u, size_t v);
+
+/*
+ * Whether a plan, drawn elsewhere or here, is good for a job: the frame lies as in ours, each side at least one cell thick; every cell of the sheet lies in
+ * exactly one rectangle; no point in four; two share a wall exactly if the job joins them, on its side, or are neighbouring sides of the frame; neighbours stand
+ * in order; every room has at least its size. Answers 256 for no, 257 for yes, or 1 to 6, 17, then 16 for bytes that are not a plan of just the job's vertices.
+ */
+size_t tirunoiwa_check(const uint8_t *job, size_t job_length, const uint8_t *plan, size_t plan_length);
 
 /* The number of the refusal, or 0 where the answer is none. */
 static inline unsigned tirunoiwa_refused(size_t answer)

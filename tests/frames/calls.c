@@ -64,8 +64,9 @@ static struct call calls[] = {
     CALL(tirunoiwa_plan), CALL(tirunoiwa_turned), CALL(tirunoiwa_star), CALL(tirunoiwa_touch), CALL(tirunoiwa_walls),  CALL(board_load),
     CALL(board_turn),     CALL(board_rectangle),  CALL(board_touches),  CALL(board_write_job), CALL(board_write_plan), CALL(board_write_walls),
     CALL(tirunoiwa_cuts), CALL(board_slices),     CALL(board_write_cuts), CALL(tirunoiwa_narrow), CALL(board_narrow),
+    CALL(tirunoiwa_check),
 };
-enum { PLAN, TURNED, STAR, TOUCH, WALLS, LOAD, TURN, RECTANGLE, TOUCHES, WRITE_JOB, WRITE_PLAN, WRITE_WALLS, CUTS, SLICES, WRITE_CUTS, NARROWED, NARROW };
+enum { PLAN, TURNED, STAR, TOUCH, WALLS, LOAD, TURN, RECTANGLE, TOUCHES, WRITE_JOB, WRITE_PLAN, WRITE_WALLS, CUTS, SLICES, WRITE_CUTS, NARROWED, NARROW, CHECK };
 
 static const char *under_way = "";
 static uint8_t job[MOST];
@@ -189,6 +190,14 @@ static void on_job(size_t length)
     make_on_board(WRITE_PLAN, &held, lent, MOST);
     if (loaded == 256 && told.answer != tirunoiwa_value(planned)) {
         stop("board_write_plan", "not as long as the plan");
+    }
+    if (loaded == 256) {
+        static uint8_t plan[TIRUNOIWA_PLAN_MOST];
+        const size_t plan_length = tirunoiwa_value(planned);
+        memcpy(plan, out, plan_length);
+        if (make(CHECK, NULL, bytes, length, (size_t)plan, plan_length, 0, 0) != 257) {
+            stop("tirunoiwa_check", "not good for its own job");
+        }
     }
     const size_t narrowed = make(NARROWED, NULL, bytes, length, lent, MOST, 0, 0);
     const size_t turns = make_on_board(NARROW, &held, 0, 0);

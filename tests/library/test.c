@@ -340,6 +340,33 @@ static void narrowings(void)
     refused("P10 narrowed before a short buffer", tirunoiwa_narrow(P10, SIZE(P10), lend(), 0), 9);
 }
 
+/* Our own plans are good, one with a frame two cells thick on the left too; the plan of F turned is not good for F. */
+static void checks(void)
+{
+    static uint8_t plan[SIZE(F_PLAN)];
+    memcpy(plan, F_PLAN, SIZE(F_PLAN));
+    lend();
+    expect("F with its plan", tirunoiwa_check(F, SIZE(F), F_PLAN, SIZE(F_PLAN)), 257, NULL, 0);
+    expect("P9 with its plan", tirunoiwa_check(P9, SIZE(P9), P9_PLAN, SIZE(P9_PLAN)), 257, NULL, 0);
+    expect("F with the plan of P9", tirunoiwa_check(F, SIZE(F), P9_PLAN, SIZE(P9_PLAN)), 256, NULL, 0);
+    expect("sizes with their plan", tirunoiwa_check(SIZED, SIZE(SIZED), SIZED_PLAN, SIZE(SIZED_PLAN)), 257, NULL, 0);
+    expect("F with a plan of larger rooms", tirunoiwa_check(F, SIZE(F), SIZED_PLAN, SIZE(SIZED_PLAN)), 257, NULL, 0);
+    expect("sizes with the plan of F", tirunoiwa_check(SIZED, SIZE(SIZED), F_PLAN, SIZE(F_PLAN)), 256, NULL, 0);
+    plan[3]++;
+    for (size_t i = 5; i < SIZE(plan); i += 8) {
+        plan[i + 4] = (uint8_t)(plan[i + 4] + (plan[i + 4] > 0));
+        plan[i + 6]++;
+    }
+    expect("W two cells thick", tirunoiwa_check(F, SIZE(F), plan, SIZE(plan)), 257, NULL, 0);
+    plan[5 + 8 * 4 + 7]++;
+    expect("a room too high", tirunoiwa_check(F, SIZE(F), plan, SIZE(plan)), 256, NULL, 0);
+    expect("no plan good for P10", tirunoiwa_check(P10, SIZE(P10), F_PLAN, SIZE(F_PLAN)), 256, NULL, 0);
+    refused("a plan cut short", tirunoiwa_check(F, SIZE(F), F_PLAN, SIZE(F_PLAN) - 1), 16);
+    refused("no plan", tirunoiwa_check(F, SIZE(F), P3, 0), 16);
+    refused("no job before no plan", tirunoiwa_check(P3, 0, P3, 0), 1);
+    refused("no rooms", tirunoiwa_check(P2, SIZE(P2), F_PLAN, SIZE(F_PLAN)), 2);
+}
+
 /* Least sizes: planned, kept by a turn, refused by 17, and by 1 where their field is too short. */
 static void sizes(void)
 {
@@ -427,6 +454,7 @@ int main(void)
     row_of_sixty();
     turns();
     narrowings();
+    checks();
     sizes();
     rows_of_wide_rooms();
     stars();

@@ -5,6 +5,7 @@ use board::Step;
 use drawing::Plan;
 use drawing::Rect;
 use drawing::Touch;
+use elsewhere::Verdict;
 
 mod page; // page.rt: what is printed, gathered and written out
 
@@ -30,6 +31,8 @@ const SLICES: u8 = 40;
 const WRITE_CUTS: u8 = 41;
 
 const NARROW: u8 = 42;
+
+const CHECK: u8 = 43;
 
 // What stands after a field: the board, and whether another field may follow.
 struct Session {
@@ -240,6 +243,35 @@ fn star(board: Board, value: &[u8]) -> Session {
     goes_on(board)
 }
 
+// What is answered of a plan drawn elsewhere: yes, no, or the number of a refusal.
+fn show_verdict(verdict: Verdict) {
+    let mut page = [0u8; 4096];
+    match verdict {
+        Verdict::Refused(k) => {
+            let end = put_refused(&mut page, k);
+            page::send(&mut page, end);
+        }
+        Verdict::Says(good) => {
+            let end = put_yes(&mut page, good);
+            page::send(&mut page, end);
+        }
+    }
+}
+
+// A job behind its length, and a plan: whether that is good for it. The board is not asked.
+fn check(board: Board, value: &[u8]) -> Session {
+    if value.len() < 2 {
+        return broken(board);
+    }
+    let length = word_at(value, 0);
+    if value.len() - 2 < length {
+        return broken(board);
+    }
+    let verdict = elsewhere::judge(&value[2..2 + length], &value[2 + length..]);
+    show_verdict(verdict);
+    goes_on(board)
+}
+
 // One call made, as its tag says.
 fn call(board: Board, tag: u8, value: &[u8]) -> Session {
     match tag {
@@ -251,6 +283,7 @@ fn call(board: Board, tag: u8, value: &[u8]) -> Session {
         SLICES => slices(board, value),
         WRITE_JOB | WRITE_PLAN | WRITE_WALLS | WRITE_CUTS => write(board, tag, value),
         STAR => star(board, value),
+        CHECK => check(board, value),
         _ => broken(board),
     }
 }

@@ -14,8 +14,9 @@ use Rattle.floor.specs.Jobs.{Job, Vertex, Labelling, SizesPassed, Entry,
 use Rattle.floor.specs.Jobs.Facts.{labelling-passes}
 use Rattle.floor.specs.Walls.{Circle, upright, level, rules, at, jobNumbers, topOf}
 use Rattle.floor.specs.Plans.{Plan, rectOf, planOf, joined, refused, held, drawn, Numbered, Alike, clear, wall, isWall, test18, Planned, Fits, Over}
+use Rattle.floor.specs.Plans.{writePlan}
 use Rattle.floor.specs.Plans.Held.{seven, nine, held-bound, held-most, eighteen}
-use Rattle.floor.specs.Floor.{Floor, Borders, GoodPlan, Roomy, Stands}
+use Rattle.floor.specs.Floor.{Floor, Borders, Complete, GoodPlan, Roomy, Stands}
 use Rattle.floor.specs.Floor.Sides.{up, left, down, right, wn, ws, ne, se}
 use Rattle.floor.specs.Turns.{turn, Kept, Turnable, turnedBy, turnedWith, InContact}
 use Rattle.floor.specs.Turns.Turned.{turned-places}
@@ -40,6 +41,8 @@ use Rattle.floor.specs.Smallest.Held.{held-placing, held-lines, held-sma
 use Rattle.floor.specs.Narrow.{Described, narrowed}
 use Rattle.floor.specs.Calls.{narrows, made, slims, Narrowed}
 use Rattle.floor.specs.Calls.Narrowing.{narrows-refused, narrows-made, narrows-only}
+use Rattle.floor.specs.Foreign.{refuses, answers, judged, GoodFor, RefusedBy}
+use Rattle.floor.specs.Foreign.Judged.{yes-exactly, refused-exactly, sixteen, ours-yes, held-yes, yes-loads, good-loads-plain}
 
 -- DEMAND 1. Every job, however damaged or contradictory, gets an answer: a plan or one numbered refusal.
 pub every-job-answered : (bs : List ℕ) → Answers ofLoad (load bs)
@@ -287,6 +290,37 @@ turned-sizes cs o p h u v i q e = ap (λ (i : SizedJob). i .sizes) (turn-accepte
 pub drawn-elsewhere : (bs : List ℕ) (o : SizedJob) → SizesPassed (readJob bs) o → (q : Plan) → GoodPlan (o .stars) q → Roomy (o .stars) (o .sizes) q
     → Loads bs o
 drawn-elsewhere = good-plan-loads
+
+-- Without sizes it is one that our load accepts, whatever its sheet.
+pub elsewhere-loads-plain : (bs : List ℕ) (o : SizedJob) → SizesPassed (readJob bs) o → o .sizes ≡ [] → (q : Plan) → GoodPlan (o .stars) q
+    → (p : Plan) × (load bs ≡ held o p)
+elsewhere-loads-plain = good-loads-plain
+
+-- PLANS DRAWN ELSEWHERE. A job's bytes and a plan's bytes get yes exactly when the job is past tests 1 to 6 and 17, the bytes are shaped as a plan, the plan is
+-- good for the job, and every room has at least its least size.
+pub elsewhere-yes-exactly : (job plan : List ℕ) → (judged job plan ≡ answers true) ↔ GoodFor job plan
+elsewhere-yes-exactly = yes-exactly
+
+-- They are refused by the job's own 1 to 6, in order, and 17; then by 16 where the bytes are not shaped as a plan; and by nothing else.
+pub elsewhere-refused-exactly : (job plan : List ℕ) (k : ℕ) → (judged job plan ≡ refuses k) ↔ RefusedBy job plan k
+elsewhere-refused-exactly = refused-exactly
+
+-- Shaped as a plan is the writing of one of vertices 0 to n + 3 in order, and nothing else.
+pub elsewhere-sixteen : (job plan : List ℕ) (o : SizedJob) → SizesPassed (readJob job) o → Bytes plan
+    → (judged job plan ≡ refuses 16) ↔ ((p : Plan) → Complete (o .stars) p → writePlan p ≡ plan → ⊥)
+elsewhere-sixteen = sixteen
+
+-- Our own written plan of an accepted job always gets yes;
+pub elsewhere-ours : (job : List ℕ) (o : SizedJob) (p : Plan) → load job ≡ held o p → judged job (writePlan p) ≡ answers true
+elsewhere-ours = ours-yes
+
+-- so do the job and the plan held after any calls, as they are written.
+pub elsewhere-held : (cs : List Call) (o : SizedJob) (p : Plan) → run empty cs ≡ holding o p → judged (writeSized o) (writePlan p) ≡ answers true
+elsewhere-held cs o p h = held-yes o p (any-calls-sound cs o p h)
+
+-- A job that gets yes with any plan is one that our load accepts, but for the sheet's limit.
+pub elsewhere-loads : (job plan : List ℕ) → judged job plan ≡ answers true → (o : SizedJob) × Loads job o
+elsewhere-loads = yes-loads
 
 -- STARTS. Jobs that differ only in their starts get equal plans, or the same refusal;
 pub starts-alike : (bs cs : List ℕ) (o i : SizedJob) → readJob bs ≡ reads o → readJob cs ≡ reads i → SameButStarts o i → Alike (load bs) (load cs)

@@ -26,7 +26,7 @@ use Rattle.floor.specs.Calls.{narrows, made, slims}
 use Rattle.floor.specs.Calls.{refuse, after, asks, writes, step, run, touches, touch, touching, writesRegister, slices, writesCuts, says, writesTree}
 
 -- P1: one room
-p1 : List ℕ
+unfoldable pub p1 : List ℕ
 p1 =
     1 ∷ 0 ∷ 1 ∷ 1
     ∷ 2 ∷ 0 ∷ 8 ∷ 0 ∷ 0 ∷ 1 ∷ 1 ∷ 2 ∷ 2 ∷ 3 ∷ 3 ∷ []
@@ -39,7 +39,7 @@ p5 =
     ∷ 2 ∷ 0 ∷ 8 ∷ 0 ∷ 0 ∷ 4 ∷ 1 ∷ 2 ∷ 2 ∷ 3 ∷ 3 ∷ []
 
 -- P6: both rooms list N, W, S, E only
-p6 : List ℕ
+unfoldable pub p6 : List ℕ
 p6 =
     1 ∷ 0 ∷ 1 ∷ 2
     ∷ 2 ∷ 0 ∷ 8 ∷ 0 ∷ 0 ∷ 1 ∷ 1 ∷ 2 ∷ 2 ∷ 3 ∷ 3
@@ -171,7 +171,7 @@ turnedSizedF =
     ∷ 7 ∷ 3 ∷ 1 ∷ 6 ∷ 2 ∷ []
 
 -- the plan of P1 as bytes
-planP1 : List ℕ
+unfoldable pub planP1 : List ℕ
 planP1 =
     3 ∷ 0 ∷ 2 ∷ 3 ∷ 3
     ∷ 4 ∷ 0 ∷ 5 ∷ 0 ∷ 1 ∷ 2 ∷ 2 ∷ 3 ∷ 4 ∷ 0 ∷ 5 ∷ 1 ∷ 0 ∷ 0 ∷ 1 ∷ 3

@@ -3,20 +3,6 @@
 ghost use Prim.Native.Nat.{_≤_};
 ghost use lib.ListN.{length};
 
-// The number of a refusal.
-fn refuse(k: u8) {
-    let mut out = letters::page();
-    let length = texts::list_refusal(k, &mut out);
-    io::write_all(1, &out[..length]);
-}
-
-// That the input is too long.
-fn too_long() {
-    let mut out = letters::page();
-    let length = texts::list_too_long(&mut out);
-    io::write_all(1, &out[..length]);
-}
-
 // How many turns were made, said beside the output.
 fn tell(turns: usize) {
     let mut out = letters::page();
@@ -30,7 +16,7 @@ fn show(answer: usize, out: &[u8], long: usize)
     requires { ⌜ long ≤ length (now out) ⌝ }
 {
     if answer < 256 {
-        refuse(answer as u8);
+        replies::refuse(answer as u8);
         return;
     }
     io::write_all(1, &out[..long]);
@@ -40,7 +26,7 @@ fn show(answer: usize, out: &[u8], long: usize)
 // What is written for a job.
 fn answer(input: &[u8]) {
     if 8192 < input.len() {
-        too_long();
+        replies::too_long();
         return;
     }
     let mut out = letters::page();

@@ -151,7 +151,7 @@ fn lists_in<'a>(nbr: &'a [u16], kind: &'a [u8], from: usize, end: usize, v: usiz
 }
 
 // Whether the star of a vertex lists another with the kind; a number that is no room's has no star.
-fn star_lists<'a>(
+pub fn star_lists<'a>(
     ends: &'a [u16],
     nbr: &'a [u16],
     kind: &'a [u8],

@@ -3,11 +3,14 @@ ghost use mathlib.Core.Path.{_≡_};
 ghost use mathlib.Core.List.{[]};
 ghost use Rattle.floor.specs.Calls.{empty, loads, step};
 ghost use Rattle.floor.specs.Tracker.{planOfJob, wallsOfJob, cutsOfJob, turnedOfJob, narrowedOfJob, touchOfJob, starOfJob, code};
+ghost use Rattle.floor.specs.Foreign.{judged};
+ghost use Rattle.floor.specs.Verdicts.{verdictCode};
 ghost use Rattle.board.specs.Boards.{boardOf, outcome, Tells};
 ghost use Rattle.board.specs.Reach.{Reached};
 ghost use Rattle.tirunoiwa.specs.Left.{Left, changing};
 use board::Board;
 use board::Step;
+use elsewhere::Verdict;
 
 mod answer; // answer.rt: an answer as one number
 
@@ -187,4 +190,21 @@ pub extern "C" fn tirunoiwa_touch(job: &[u8], u: usize, v: usize) -> usize
     let told = held.touches(u, v);
     let reply = told.reply;
     answer::code_of(reply)
+}
+
+// Whether a plan drawn elsewhere is good for a job, as one number: 1 more than the first value for yes, the first value for no.
+#[no_mangle]
+pub extern "C" fn tirunoiwa_check<'a>(job: &'a [u8], plan: &'a [u8]) -> usize
+    ensures { λ r. ⌜ r ≡ verdictCode (judged (now (job .entry)) (now (plan .entry))) ⌝ }
+{
+    let answer = elsewhere::judge(job, plan);
+    match answer {
+        Verdict::Refused(k) => fields::wide(k),
+        Verdict::Says(good) => {
+            if good {
+                return FIRST_VALUE + 1;
+            }
+            FIRST_VALUE
+        }
+    }
 }

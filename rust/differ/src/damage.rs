@@ -51,7 +51,7 @@ pub fn damaged_job(chance: &mut Chance) -> Job {
     damaged(chance, floor)
 }
 
-fn damaged(chance: &mut Chance, mut job: Job) -> Job {
+pub fn damaged(chance: &mut Chance, mut job: Job) -> Job {
     // Several damages at once show whether the tests come in the written order.
     let times = *chance.pick(&[1, 1, 1, 1, 2, 2, 3, 6]);
     for _ in 0..times {

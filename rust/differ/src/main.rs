@@ -11,6 +11,7 @@ mod picture;
 mod planner;
 mod programs;
 mod proofread;
+mod returned;
 mod rounds;
 mod shrink;
 mod slips;
@@ -32,7 +33,7 @@ use streams::{make_stream, Budget};
 use table::Table;
 
 const USAGE: &str = "differ [--short | --long] [--seed N] [--jobs N] [--calls N] [--pairs N] \
-    [--listings N] [--doors N] [--walls N] [--cuts N] [--narrows N] [--pictures N] [--texts N] [--runner PATH] [--slip NAME] [--reference]";
+    [--listings N] [--doors N] [--walls N] [--cuts N] [--narrows N] [--checks N] [--pictures N] [--texts N] [--runner PATH] [--slip NAME] [--reference]";
 
 struct Options {
     seed: u64,
@@ -44,6 +45,7 @@ struct Options {
     walls: usize,
     cuts: usize,
     narrows: usize,
+    checks: usize,
     pictures: usize,
     texts: usize,
     under_test: UnderTest,
@@ -56,7 +58,7 @@ fn main() -> ExitCode {
     };
     let begun = Instant::now();
     println!(
-        "seed {}, {} jobs, {} other calls, {} pairs of starts, {} listings, {} lists of doors, {} of walls, {} of cuts, {} narrowed, {} pictures, {} texts",
+        "seed {}, {} jobs, {} other calls, {} pairs of starts, {} listings, {} lists of doors, {} of walls, {} of cuts, {} narrowed, {} plans checked, {} pictures, {} texts",
         options.seed,
         options.jobs,
         options.calls,
@@ -66,6 +68,7 @@ fn main() -> ExitCode {
         options.walls,
         options.cuts,
         options.narrows,
+        options.checks,
         options.pictures,
         options.texts
     );
@@ -77,6 +80,7 @@ fn main() -> ExitCode {
         && compare_told(&options, OneJob::Walls, options.walls, &mut table)
         && compare_told(&options, OneJob::Cuts, options.cuts, &mut table)
         && compare_narrowed(&options, &mut table)
+        && compare_checks(&options, &mut table)
         && compare_pictures(&options, &mut table)
         && compare_texts(&options, &mut table);
     table.print();
@@ -105,6 +109,7 @@ fn read_options() -> Option<Options> {
         walls: 300,
         cuts: 300,
         narrows: 300,
+        checks: 10_000,
         pictures: 200,
         texts: 300,
         under_test: UnderTest::Runner("../bin/run".to_string()),
@@ -118,7 +123,7 @@ fn read_options() -> Option<Options> {
                 options.pairs = 10_000;
                 (options.listings, options.doors) = (3_000, 3_000);
                 (options.walls, options.cuts) = (3_000, 3_000);
-                options.narrows = 3_000;
+                (options.narrows, options.checks) = (3_000, 200_000);
                 (options.pictures, options.texts) = (2_000, 3_000);
             }
             "--seed" => options.seed = words.next()?.parse().ok()?,
@@ -130,6 +135,7 @@ fn read_options() -> Option<Options> {
             "--walls" => options.walls = words.next()?.parse().ok()?,
             "--cuts" => options.cuts = words.next()?.parse().ok()?,
             "--narrows" => options.narrows = words.next()?.parse().ok()?,
+            "--checks" => options.checks = words.next()?.parse().ok()?,
             "--pictures" => options.pictures = words.next()?.parse().ok()?,
             "--texts" => options.texts = words.next()?.parse().ok()?,
             "--runner" => options.under_test = UnderTest::Runner(words.next()?),
@@ -208,6 +214,23 @@ fn compare_told(options: &Options, program: OneJob, rounds: usize, table: &mut T
             println!("difference in {} of {} bytes:", program.name(), job.len());
             println!("  {}", hex(&job));
             println!("reference:\n{expected}program:\n{found}");
+            return false;
+        }
+    }
+    true
+}
+
+/// Plans drawn elsewhere, so many to a stream.
+fn compare_checks(options: &Options, table: &mut Table) -> bool {
+    let mut chance = Chance::new(options.seed ^ 0x6368_6563);
+    let mut left = options.checks;
+    while left > 0 {
+        let many = left.min(2_000);
+        left -= many;
+        let mut own = Chance::new(chance.next());
+        let stream = streams::make_checks(&mut own, many, table);
+        if options.under_test.calls(&stream.pieces.concat()) != stream.expected {
+            show_stream_difference(options, stream.pieces);
             return false;
         }
     }

@@ -18,6 +18,7 @@ pub const WRITE_WALLS: u8 = 39;
 pub const SLICEABLE: u8 = 40;
 pub const WRITE_CUTS: u8 = 41;
 pub const NARROW: u8 = 42;
+pub const CHECK: u8 = 43;
 
 pub const LARGEST_BUFFER: usize = 2_048;
 pub const LONGEST_JOB: usize = 8_192;
@@ -39,6 +40,7 @@ pub trait Planner {
     fn write_walls(&self, buffer: &mut [u8]) -> Result<usize, Refusal>;
     fn write_cuts(&self, buffer: &mut [u8]) -> Result<usize, Refusal>;
     fn star<'a>(&self, bytes: &'a [u8], room: usize) -> &'a [u8];
+    fn check(&self, job: &[u8], plan: &[u8]) -> Result<bool, Refusal>;
 }
 
 impl Planner for Board {
@@ -84,6 +86,9 @@ impl Planner for Board {
     fn star<'a>(&self, bytes: &'a [u8], room: usize) -> &'a [u8] {
         reference::star(bytes, room)
     }
+    fn check(&self, job: &[u8], plan: &[u8]) -> Result<bool, Refusal> {
+        reference::judge(job, plan)
+    }
 }
 
 /// One answer: the call it answers, what came of it, and the line printed.
@@ -97,7 +102,7 @@ pub struct Answer {
 pub enum Outcome {
     Accepted,
     Refused(u8),
-    /// Nothing to tell: a star that is an empty stretch, no shared wall, or no way to cut a floor.
+    /// Nothing to tell: a star that is an empty stretch, no shared wall, no way to cut a floor, or a plan that is not good.
     Empty,
 }
 
@@ -161,6 +166,11 @@ fn answer_call(planner: &mut dyn Planner, field: Field) -> Option<Answer> {
         WRITE_JOB | WRITE_PLAN | WRITE_WALLS | WRITE_CUTS => {
             let [size] = numbers(field.value)?;
             written(planner, tag, size)?
+        }
+        CHECK => {
+            let [length] = numbers(field.value.get(..2)?)?;
+            let (job, plan) = field.value[2..].split_at_checked(length)?;
+            sliced(planner.check(job, plan))
         }
         STAR => {
             let [room] = numbers(field.value.get(..2)?)?;

@@ -84,6 +84,8 @@ fn run_bytes(runner: &str, program: &str, input: &[u8]) -> Vec<u8> {
         .arg(program)
         .stdin(Stdio::piped())
         .stdout(Stdio::piped())
+        // How many turns were made is told there, too.
+        .stderr(Stdio::null())
         .spawn();
     match child {
         Ok(child) => talk(child, input),

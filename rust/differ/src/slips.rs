@@ -7,6 +7,7 @@ use reference::cuts::{self, cuts, tree_by, Cut, Part};
 use reference::doors::{doors_by, Door};
 use reference::drawing::{faults, in_order, meet_only_at_a_corner, place, touch};
 use reference::drawing::{Faults, Plan, Rectangle, Touch};
+use reference::elsewhere::{conditions, each_cell, read_plan};
 use reference::fields::{put_field, Reader};
 use reference::job::{changes, goes_on, nobody_twice, read_by, sizes_are_fit, star_is_fit};
 use reference::job::{Job, Size, Star, ONE_CELL};
@@ -160,6 +161,28 @@ pub enum Slip {
     OneTurnMore,
     /// Nothing is narrowed where none is held, and 0 is told.
     NothingNarrowed,
+    /// A plan may have neighbours on another side than their label says.
+    SideNotAsked,
+    /// The frame of a plan has to be one cell thick.
+    FrameOneThick,
+    /// A plan may have neighbours in another order.
+    OrderNotAsked,
+    /// A plan may leave cells to nobody.
+    GapAllowed,
+    /// A plan may have a point in four rectangles.
+    FourAllowed,
+    /// A plan may have walls between rooms that are not joined.
+    UnjoinedAllowed,
+    /// A plan may have rooms that are smaller than they must be.
+    SizesNotAsked,
+    /// Only our own plan is good.
+    OursOnly,
+    /// A plan of more than 250 cells is not good.
+    PlanLimited,
+    /// 16 comes before the job's own refusals.
+    SixteenFirst,
+    /// A plan of another number of vertices is not good, where 16 is due.
+    NoForSixteen,
     /// In a text the height comes first, written and read.
     TextHeightFirst,
     /// A size of 1 by 1 is told in a text.
@@ -171,7 +194,7 @@ pub enum Slip {
 }
 
 /// Those that calls show.
-pub const ALL: [Slip; 73] = [
+pub const ALL: [Slip; 84] = [
     Slip::RoomsOnly,
     Slip::AreaAlone,
     Slip::NoArea,
@@ -245,6 +268,17 @@ pub const ALL: [Slip; 73] = [
     Slip::RegisterKeptNarrow,
     Slip::OneTurnMore,
     Slip::NothingNarrowed,
+    Slip::SideNotAsked,
+    Slip::FrameOneThick,
+    Slip::OrderNotAsked,
+    Slip::GapAllowed,
+    Slip::FourAllowed,
+    Slip::UnjoinedAllowed,
+    Slip::SizesNotAsked,
+    Slip::OursOnly,
+    Slip::PlanLimited,
+    Slip::SixteenFirst,
+    Slip::NoForSixteen,
 ];
 
 /// Those that only texts show.
@@ -291,6 +325,22 @@ pub const OF_CUTS: [Slip; 5] = [
     Slip::OtherPartFirst,
     Slip::CutThroughRoom,
     Slip::PlaceFromRooms,
+];
+
+/// Those of plans drawn elsewhere.
+#[cfg(test)]
+pub const OF_RETURNED: [Slip; 11] = [
+    Slip::SideNotAsked,
+    Slip::FrameOneThick,
+    Slip::OrderNotAsked,
+    Slip::GapAllowed,
+    Slip::FourAllowed,
+    Slip::UnjoinedAllowed,
+    Slip::SizesNotAsked,
+    Slip::OursOnly,
+    Slip::PlanLimited,
+    Slip::SixteenFirst,
+    Slip::NoForSixteen,
 ];
 
 /// Those that a job narrowed by the program shows as well.
@@ -558,6 +608,24 @@ impl SlippedBoard {
         (job, plan, turns)
     }
 
+    /// Whether a plan drawn elsewhere is good for a job.
+    fn is_good(&self, job: &Job, plan: &Plan) -> bool {
+        let mut found = conditions(job, plan);
+        match self.slip {
+            Slip::SideNotAsked => found.sides = true,
+            Slip::FrameOneThick => found.frame &= frame_is_thin(plan),
+            Slip::OrderNotAsked => found.order = true,
+            Slip::GapAllowed => found.cover = each_cell(plan, |rectangles| rectangles <= 1),
+            Slip::FourAllowed => found.no_four = true,
+            Slip::UnjoinedAllowed => found.walls = true,
+            Slip::SizesNotAsked => found.sizes = true,
+            Slip::OursOnly => return reference::drawing::draw(job).as_ref() == Ok(plan),
+            Slip::PlanLimited => found.inside &= plan.width.max(plan.height) <= LARGEST_SHEET,
+            _ => {}
+        }
+        found.all()
+    }
+
     /// How two rectangles touch.
     fn touching(&self, a: &Rectangle, b: &Rectangle) -> Option<Touch> {
         let right = touch(a, b);
@@ -657,6 +725,16 @@ impl SlippedBoard {
         }
         Ok(bytes.len())
     }
+}
+
+/// Whether every side of the frame is one cell thick.
+fn frame_is_thin(plan: &Plan) -> bool {
+    let sides = &plan.rectangles[..FIRST_ROOM];
+    let thick = |(side, r): (usize, &Rectangle)| match side {
+        0 | 2 => r.y2 - r.y1,
+        _ => r.x2 - r.x1,
+    };
+    sides.iter().enumerate().all(|side| thick(side) == 1)
 }
 
 /// Tag and value of each field, where the bytes are fields and nothing else, the first that of one room or more.
@@ -983,6 +1061,22 @@ impl Planner for SlippedBoard {
     fn write_plan(&self, buffer: &mut [u8]) -> Result<usize, Refusal> {
         let (_, plan) = self.held()?;
         self.write(plan.bytes(), buffer)
+    }
+
+    fn check(&self, job: &[u8], plan: &[u8]) -> Result<bool, Refusal> {
+        let vertices = job
+            .get(3)
+            .map_or(0, |&rooms| usize::from(rooms) + FIRST_ROOM);
+        let shaped = read_plan(plan, vertices);
+        if self.slip == Slip::SixteenFirst && shaped.is_none() {
+            return Err(Refusal(16));
+        }
+        let job = reference::job::read(job)?;
+        match shaped {
+            None if self.slip == Slip::NoForSixteen => Ok(false),
+            None => Err(Refusal(16)),
+            Some(plan) => Ok(self.is_good(&job, &plan)),
+        }
     }
 
     fn star<'a>(&self, bytes: &'a [u8], room: usize) -> &'a [u8] {

@@ -1,10 +1,13 @@
 //! Streams of calls, made while the reference answers them, so that later calls can aim at what is held.
 
 use crate::damage::any_job;
-use crate::planner::{answer_stream, Answer, Outcome, LARGEST_BUFFER, LOAD, NARROW, RECTANGLE};
+use crate::planner::{
+    answer_stream, Answer, Outcome, CHECK, LARGEST_BUFFER, LOAD, NARROW, RECTANGLE,
+};
 use crate::planner::{SLICEABLE, STAR};
 use crate::planner::{TOUCH, TURN, WRITE_CUTS, WRITE_JOB, WRITE_PLAN, WRITE_WALLS};
 use crate::proofread::plan_fault;
+use crate::returned::{any_returned, Returned};
 use crate::table::Table;
 use floors::{Chance, LARGEST_SHEET, LARGEST_SIZE};
 use reference::fields::put_field;
@@ -42,14 +45,7 @@ impl Budget {
 /// Makes one stream and its expected text. A fault of the reference itself ends the run with a message.
 pub fn make_stream(chance: &mut Chance, budget: &mut Budget, table: &mut Table) -> Stream {
     let length = *chance.pick(&[1, 5, 20, 500, 2_000, 2_000, 4_000]);
-    let mut maker = Maker {
-        board: Board::empty(),
-        last_turn: None,
-        stream: Stream {
-            pieces: Vec::new(),
-            expected: String::new(),
-        },
-    };
+    let mut maker = Maker::empty();
     for _ in 0..length {
         if budget.is_empty() {
             break;
@@ -66,6 +62,40 @@ pub fn make_stream(chance: &mut Chance, budget: &mut Budget, table: &mut Table) 
     maker.stream
 }
 
+/// A stream of plans drawn elsewhere, each with its job.
+pub fn make_checks(chance: &mut Chance, many: usize, table: &mut Table) -> Stream {
+    let mut maker = Maker::empty();
+    for _ in 0..many {
+        let returned = any_returned(chance);
+        let piece = check(&returned);
+        let before = table.of(CHECK, Outcome::Accepted);
+        maker.put(piece, table);
+        if table.of(CHECK, Outcome::Accepted) > before && !is_ours(&returned) {
+            table.good_elsewhere += 1;
+        }
+    }
+    table.streams += 1;
+    maker.stream
+}
+
+/// The call that asks of a job and a plan.
+fn check(returned: &Returned) -> Vec<u8> {
+    let mut value = two(returned.job.len()).to_vec();
+    value.extend(&returned.job);
+    value.extend(&returned.plan);
+    call(CHECK, &value)
+}
+
+/// Whether the plan is the one that a load of the job gives.
+fn is_ours(returned: &Returned) -> bool {
+    let mut board = Board::empty();
+    let loaded = board.load(&returned.job);
+    loaded.is_ok()
+        && board
+            .plan()
+            .is_some_and(|plan| plan.bytes() == returned.plan)
+}
+
 struct Maker {
     board: Board,
     /// The rooms of an accepted turn just made, and the board before it.
@@ -74,6 +104,17 @@ struct Maker {
 }
 
 impl Maker {
+    fn empty() -> Maker {
+        Maker {
+            board: Board::empty(),
+            last_turn: None,
+            stream: Stream {
+                pieces: Vec::new(),
+                expected: String::new(),
+            },
+        }
+    }
+
     fn next_piece(&self, chance: &mut Chance, job: bool) -> Vec<u8> {
         if job {
             return if chance.percent(85) {
@@ -90,7 +131,8 @@ impl Maker {
             69..=74 => self.writing(chance, WRITE_JOB),
             75..=79 => self.writing(chance, WRITE_PLAN),
             80..=87 => self.writing(chance, WRITE_WALLS),
-            88..=91 => call(SLICEABLE, &[]),
+            88..=90 => call(SLICEABLE, &[]),
+            91 => check(&any_returned(chance)),
             _ => self.writing(chance, WRITE_CUTS),
         }
     }
@@ -359,7 +401,7 @@ fn breaking_tail(chance: &mut Chance) -> Vec<u8> {
             cut(chance, call(LOAD, &bytes))
         }
         2 => call(
-            *chance.pick(&[0, 1, 2, 31, 43, 255, 32 + 128]),
+            *chance.pick(&[0, 1, 2, 31, 44, 255, 32 + 128]),
             &four(4, 5)[..chance.below(5)],
         ),
         3 => call(
@@ -370,7 +412,7 @@ fn breaking_tail(chance: &mut Chance) -> Vec<u8> {
             *chance.pick(&[RECTANGLE, WRITE_JOB, WRITE_PLAN, WRITE_WALLS, WRITE_CUTS]),
             &[0, 4, 0, 5][..*chance.pick(&[0, 1, 3, 4])],
         ),
-        5 => call(STAR, &[0, 4][..chance.below(2)]),
+        5 => call(*chance.pick(&[STAR, CHECK]), &[0, 4][..chance.below(2)]),
         6 => call(
             *chance.pick(&[WRITE_JOB, WRITE_PLAN, WRITE_WALLS, WRITE_CUTS]),
             &two(*chance.pick(&[2_049, 2_050, 4_096, 65_535])),

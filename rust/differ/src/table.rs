@@ -1,7 +1,9 @@
 //! How often each answer was seen.
 
 use crate::picture::Marked;
-use crate::planner::{OneJob, Outcome, LOAD, NARROW, RECTANGLE, SLICEABLE, STAR, TOUCH, TURN};
+use crate::planner::{
+    OneJob, Outcome, CHECK, LOAD, NARROW, RECTANGLE, SLICEABLE, STAR, TOUCH, TURN,
+};
 use crate::planner::{WRITE_CUTS, WRITE_JOB, WRITE_PLAN, WRITE_WALLS};
 use reference::drawing::Faults;
 use std::collections::BTreeMap;
@@ -27,11 +29,13 @@ pub struct Table {
     slimmed: BTreeMap<usize, u64>,
     /// Jobs narrowed by the program, by what came of it.
     narrowed: BTreeMap<String, u64>,
+    /// Good plans that are not ours.
+    pub good_elsewhere: u64,
     pub turned_back: u64,
     pub plans_checked: u64,
 }
 
-const CALLS: [(u8, &str); 11] = [
+const CALLS: [(u8, &str); 12] = [
     (LOAD, "load"),
     (TURN, "turn"),
     (NARROW, "narrow"),
@@ -43,10 +47,11 @@ const CALLS: [(u8, &str); 11] = [
     (SLICEABLE, "sliceable"),
     (WRITE_CUTS, "cuts"),
     (STAR, "star"),
+    (CHECK, "check"),
 ];
 
 /// The numbers of refusals, those of a load in the order of their tests; 8 is not used.
-const REFUSALS: [u8; 16] = [1, 2, 3, 4, 5, 6, 17, 7, 18, 9, 10, 11, 12, 13, 14, 15];
+const REFUSALS: [u8; 17] = [1, 2, 3, 4, 5, 6, 17, 7, 18, 9, 10, 11, 12, 13, 14, 15, 16];
 
 const ITEMS: [&str; 6] = ["outside", "overlap", "area", "unjoined", "corner", "order"];
 
@@ -128,7 +133,7 @@ impl Table {
             .sum()
     }
 
-    fn of(&self, tag: u8, outcome: Outcome) -> u64 {
+    pub fn of(&self, tag: u8, outcome: Outcome) -> u64 {
         self.seen.get(&(tag, outcome)).copied().unwrap_or(0)
     }
 
@@ -196,6 +201,7 @@ impl Table {
             "{} streams, {} of them broken; {} plans checked cell by cell; {} turns made again at once",
             self.streams, self.broken_streams, self.plans_checked, self.turned_back
         );
+        println!("good plans that are not ours: {}", self.good_elsewhere);
         println!("loads with sizes: {}", in_words(&self.sized_in_words()));
         let turns = self
             .slimmed

@@ -9,9 +9,10 @@ use crate::programs::UnderTest;
 use crate::proofread::plan_fault;
 use crate::shrink::{both_texts, Shrinker};
 use crate::slips::{
-    Slip, ALL, OF_CUTS, OF_NARROWING, OF_SIZES, OF_STARTS, OF_TEXTS, OF_TOUCHES, OF_WALLS,
+    Slip, ALL, OF_CUTS, OF_NARROWING, OF_RETURNED, OF_SIZES, OF_STARTS, OF_TEXTS, OF_TOUCHES,
+    OF_WALLS,
 };
-use crate::streams::{make_stream, Budget};
+use crate::streams::{make_checks, make_stream, Budget};
 use crate::table::Table;
 use crate::texts::{damaged_text, job_of, text_of};
 use floors::Chance;
@@ -40,6 +41,10 @@ fn first_difference(under_test: &UnderTest, seed: u64) -> Option<Vec<Vec<u8>>> {
 #[test]
 fn every_slip_is_found_and_shrunk() {
     for slip in ALL {
+        // Plans drawn elsewhere have streams of their own, below.
+        if OF_RETURNED.contains(&slip) {
+            continue;
+        }
         let under_test = UnderTest::Slipped(slip);
         let pieces =
             first_difference(&under_test, 11).unwrap_or_else(|| panic!("{slip:?} is not found"));
@@ -113,6 +118,36 @@ fn a_slip_of_narrowing_is_found_in_the_narrowed_job() {
         assert!(found, "{slip:?} is not found");
     }
     assert!(!narrowed_otherwise(&UnderTest::Reference));
+}
+
+/// The first stream of plans drawn elsewhere in which the planner under test differs.
+fn first_unlike_check(under_test: &UnderTest) -> Option<Vec<Vec<u8>>> {
+    let mut chance = Chance::new(11);
+    (0..20).find_map(|_| {
+        let stream = make_checks(&mut chance, 500, &mut Table::default());
+        let same = under_test.calls(&stream.pieces.concat()) == stream.expected;
+        (!same).then_some(stream.pieces)
+    })
+}
+
+#[test]
+fn a_slip_of_plans_drawn_elsewhere_is_found() {
+    for slip in OF_RETURNED {
+        let under_test = UnderTest::Slipped(slip);
+        let pieces =
+            first_unlike_check(&under_test).unwrap_or_else(|| panic!("{slip:?} is not found"));
+        let small = Shrinker::new(&under_test).shrink(pieces);
+        assert_eq!(small.len(), 1, "{slip:?}");
+    }
+    assert!(first_unlike_check(&UnderTest::Reference).is_none());
+}
+
+/// W8: of 2,000 plans at least 100 are good and not ours.
+#[test]
+fn a_twentieth_of_the_plans_are_good_and_not_ours() {
+    let mut table = Table::default();
+    make_checks(&mut Chance::new(5), 2_000, &mut table);
+    assert!(table.good_elsewhere >= 100, "only {}", table.good_elsewhere);
 }
 
 /// Whether some job has another text, or some text another job.

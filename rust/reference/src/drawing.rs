@@ -5,8 +5,8 @@ use crate::job::{round, Entry, Job};
 use crate::walls::{number_walls, WallNumbers};
 use crate::{refusal, Refusal, ABOVE, BELOW, EAST, FIRST_ROOM, LEFT, NORTH, RIGHT, SOUTH, WEST};
 
-const TAG_SHEET: u8 = 3;
-const TAG_RECTANGLE: u8 = 4;
+pub const TAG_SHEET: u8 = 3;
+pub const TAG_RECTANGLE: u8 = 4;
 const LARGEST_SHEET: usize = 250;
 
 #[derive(Clone, Copy, Debug, PartialEq, Eq)]
@@ -185,7 +185,7 @@ pub fn meet_only_at_a_corner(a: &Rectangle, b: &Rectangle) -> bool {
     touch_sideways(a, b) && touch_up_or_down(a, b)
 }
 
-fn frame_neighbours(a: usize, b: usize) -> bool {
+pub fn frame_neighbours(a: usize, b: usize) -> bool {
     let pairs = [(NORTH, WEST), (WEST, SOUTH), (SOUTH, EAST), (EAST, NORTH)];
     pairs.contains(&(a, b)) || pairs.contains(&(b, a))
 }

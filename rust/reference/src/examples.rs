@@ -4,7 +4,7 @@ use crate::cuts::Part;
 use crate::drawing::{stretch, touch, within_bound, Rectangle, Touch};
 use crate::job::{Entry, Job, Size, ONE_CELL};
 use crate::register::Wall;
-use crate::{opposite, star, Board, Refusal, ABOVE, BELOW, LEFT, RIGHT};
+use crate::{judge, opposite, star, Board, Refusal, ABOVE, BELOW, LEFT, RIGHT};
 
 const P1: &str = "01 00 01 01 02 00 08 00 00 01 01 02 02 03 03";
 const F: &str = "01 00 01 04 02 00 08 00 00 01 01 06 02 05 03 \
@@ -1113,4 +1113,170 @@ fn a_floor_is_narrowed_until_no_turn_narrows_it() {
     assert_eq!(board.turn(5, 6), Ok((5, 4)));
     assert_eq!(board.narrow(), Ok(1));
     assert_eq!(written(&board), bytes(F));
+}
+
+/// A plan's bytes: the sheet, then a rectangle for each vertex in order.
+fn drawn(width: u8, height: u8, rectangles: &[[u8; 4]]) -> Vec<u8> {
+    let mut out = vec![3, 0, 2, width, height];
+    for (vertex, corners) in rectangles.iter().enumerate() {
+        out.extend_from_slice(&[4, 0, 5, vertex as u8]);
+        out.extend_from_slice(corners);
+    }
+    out
+}
+
+/// P5 with other proportions: a thick frame, room 4 up to x, room 5 from y on.
+fn stretched(x: u8, y: u8) -> Vec<u8> {
+    let frame = [[2, 5, 8, 7], [0, 0, 2, 7], [2, 0, 8, 1], [8, 0, 9, 7]];
+    drawn(
+        9,
+        7,
+        &[&frame[..], &[[2, 1, x, 5], [y, 1, 8, 5]][..]].concat(),
+    )
+}
+
+#[test]
+fn our_own_plans_are_good() {
+    for job in [bytes(P1), row(2), row(60), bytes(F), sized_f()] {
+        let mut board = loaded(&job);
+        let plan = board.plan().expect("held").bytes();
+        assert_eq!(judge(&job, &plan), Ok(true));
+        if board.turn(5, 6).is_ok() {
+            let turned = board.plan().expect("held").bytes();
+            assert_eq!(judge(&written(&board), &turned), Ok(true));
+            assert_eq!(judge(&job, &turned), Ok(false));
+        }
+    }
+}
+
+#[test]
+fn other_proportions_are_good_without_a_gap() {
+    assert_eq!(judge(&row(2), &stretched(3, 3)), Ok(true));
+    assert_eq!(judge(&row(2), &stretched(7, 7)), Ok(true));
+    // A gap, an overlap, an empty rectangle and a reversed one.
+    for (x, y) in [(3, 4), (4, 3), (2, 2), (3, 9)] {
+        assert_eq!(judge(&row(2), &stretched(x, y)), Ok(false));
+    }
+}
+
+#[test]
+fn rooms_drawn_elsewhere_have_their_sizes() {
+    let job = sized(row(2), &[(3, 1), (1, 1)]);
+    assert_eq!(judge(&job, &stretched(4, 4)), Ok(false));
+    assert_eq!(judge(&job, &stretched(5, 5)), Ok(true));
+    let high = sized(row(2), &[(1, 5), (1, 1)]);
+    assert_eq!(judge(&high, &stretched(5, 5)), Ok(false));
+}
+
+#[test]
+fn a_plan_of_the_wrong_sides_is_not_good() {
+    // Room 4 to the right of room 5, where the job has it to the left.
+    let mut exchanged = stretched(3, 3);
+    let (four, five) = (5 + 8 * 4 + 4, 5 + 8 * 5 + 4);
+    for corner in 0..4 {
+        exchanged.swap(four + corner, five + corner);
+    }
+    assert_eq!(judge(&row(2), &exchanged), Ok(false));
+}
+
+#[test]
+fn the_frame_lies_as_in_ours() {
+    let room = [1, 1, 2, 2];
+    let ours = [[1, 2, 2, 3], [0, 0, 1, 3], [1, 0, 2, 1], [2, 0, 3, 3], room];
+    assert_eq!(judge(&bytes(P1), &drawn(3, 3, &ours)), Ok(true));
+    // N and S the full width, W and E between them.
+    let level = [[0, 2, 3, 3], [0, 1, 1, 2], [0, 0, 3, 1], [2, 1, 3, 2], room];
+    assert_eq!(judge(&bytes(P1), &drawn(3, 3, &level)), Ok(false));
+    // A sheet larger than what is drawn on it.
+    assert_eq!(judge(&bytes(P1), &drawn(4, 3, &ours)), Ok(false));
+}
+
+#[test]
+fn four_rooms_at_a_point_are_not_good() {
+    // Rooms 4 and 5 below, 6 and 7 above; 5 touches 6, so the wall between the lower two stands to the left of that between the upper two.
+    let job = job(&[
+        &[(6, 0), (1, 1), (2, 2), (5, 3)],
+        &[(7, 0), (6, 0), (4, 1), (2, 2), (3, 3)],
+        &[(0, 0), (1, 1), (4, 2), (5, 2), (7, 3)],
+        &[(0, 0), (6, 1), (5, 2), (3, 3)],
+    ]);
+    let plan = |below: u8, above: u8| {
+        let frame = [[1, 3, 5, 4], [0, 0, 1, 4], [1, 0, 5, 1], [5, 0, 6, 4]];
+        let rooms = [
+            [1, 1, below, 2],
+            [below, 1, 5, 2],
+            [1, 2, above, 3],
+            [above, 2, 5, 3],
+        ];
+        drawn(6, 4, &[&frame[..], &rooms[..]].concat())
+    };
+    assert_eq!(judge(&job, &plan(2, 3)), Ok(true));
+    assert_eq!(judge(&job, &plan(2, 4)), Ok(true));
+    assert_eq!(judge(&job, &plan(3, 3)), Ok(false));
+    assert_eq!(judge(&job, &plan(4, 3)), Ok(false));
+}
+
+#[test]
+fn bytes_not_shaped_as_a_plan() {
+    let job = row(2);
+    let good = stretched(3, 3);
+    let changed = |place: usize, byte: u8| {
+        let mut plan = good.clone();
+        plan[place] = byte;
+        plan
+    };
+    let mut longer = good.clone();
+    longer.push(0);
+    let fewer = good[..good.len() - 8].to_vec();
+    let mut exchanged = good.clone();
+    exchanged.swap(8, 16);
+    let others = [
+        vec![],
+        longer,
+        fewer,
+        exchanged,
+        good[..good.len() - 1].to_vec(),
+        changed(0, 4),
+        changed(2, 3),
+        changed(5, 3),
+        changed(7, 4),
+        changed(8, 1),
+    ];
+    for plan in others {
+        assert_eq!(judge(&job, &plan), Err(Refusal(16)));
+    }
+}
+
+#[test]
+fn the_job_is_refused_before_its_plan() {
+    let plan = stretched(3, 3);
+    assert_eq!(judge(&[], &[]), Err(Refusal(1)));
+    assert_eq!(judge(&bytes("01 00 01 00"), &plan), Err(Refusal(2)));
+    let ones = sized(row(2), &[(1, 1), (1, 1)]);
+    assert_eq!(judge(&ones, &[]), Err(Refusal(17)));
+    // 7 and 9 are no refusals here: such a job has no good plan.
+    assert_eq!(judge(&ring(), &[]), Err(Refusal(16)));
+    let alone: &[(usize, u8)] = &[(0, 0), (1, 1), (2, 2), (3, 3)];
+    assert_eq!(judge(&job(&[alone, alone]), &plan), Ok(false));
+}
+
+#[test]
+fn a_sheet_that_a_load_refuses_may_be_good_elsewhere() {
+    // Seventeen rooms in a row, all 15 wide but the last, which brings the sheet to 251.
+    let mut sizes = vec![(15, 1); 16];
+    sizes.push((9, 1));
+    let job = sized(row(17), &sizes);
+    assert_eq!(load(&job), Err(Refusal(18)));
+    let mut rectangles = vec![
+        [1, 2, 250, 3],
+        [0, 0, 1, 3],
+        [1, 0, 250, 1],
+        [250, 0, 251, 3],
+    ];
+    let mut left = 1;
+    for (width, _) in sizes {
+        rectangles.push([left, 1, left + width, 2]);
+        left += width;
+    }
+    assert_eq!(judge(&job, &drawn(251, 3, &rectangles)), Ok(true));
 }

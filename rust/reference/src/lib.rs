@@ -7,6 +7,7 @@ pub mod board;
 pub mod cuts;
 pub mod doors;
 pub mod drawing;
+pub mod elsewhere;
 pub mod fields;
 pub mod job;
 pub mod register;
@@ -17,6 +18,7 @@ pub mod walls;
 mod examples;
 
 pub use board::Board;
+pub use elsewhere::judge;
 pub use job::star;
 
 /// A refusal, by the number the user sees.
@@ -41,6 +43,7 @@ pub mod refusal {
     pub const NO_SUCH_VERTEX: Refusal = Refusal(13);
     pub const BUFFER_TOO_SHORT: Refusal = Refusal(14);
     pub const NOT_SLICEABLE: Refusal = Refusal(15);
+    pub const NOT_A_PLAN: Refusal = Refusal(16);
     pub const BAD_SIZE: Refusal = Refusal(17);
     pub const SHEET_TOO_LARGE: Refusal = Refusal(18);
 }

@@ -4,7 +4,7 @@
 //! the front is filled, what lies behind stays as it was, and a refusal leaves every byte. `plan`, `walls`, `cuts`, `turned`, `narrowed` and `star` bring a
 //! buffer that always suffices.
 
-/// The number of a refusal, 1 to 15, 17 or 18; 8 is not used.
+/// The number of a refusal, 1 to 18; 8 is not used.
 #[derive(Clone, Copy, Debug, PartialEq, Eq)]
 pub struct Refusal(pub u8);
 
@@ -78,6 +78,13 @@ mod library {
             out_length: usize,
         ) -> usize;
 
+        pub fn tirunoiwa_check(
+            job: *const u8,
+            job_length: usize,
+            plan: *const u8,
+            plan_length: usize,
+        ) -> usize;
+
         pub fn tirunoiwa_touch(job: *const u8, job_length: usize, u: usize, v: usize) -> usize;
     }
 }
@@ -135,6 +142,14 @@ pub fn touch(job: &[u8], u: usize, v: usize) -> Result<Option<Touch>, Refusal> {
         side: (value % 4) as u8,
         length: value / 4,
     }))
+}
+
+/// Whether a plan, drawn elsewhere or here, is good for a job; refused by 16 where the bytes are not a plan of just the job's vertices.
+pub fn check(job: &[u8], plan: &[u8]) -> Result<bool, Refusal> {
+    // SAFETY: both are slices, so the pointers are not null and valid for the lengths, and are only read.
+    let answer =
+        unsafe { library::tirunoiwa_check(job.as_ptr(), job.len(), plan.as_ptr(), plan.len()) };
+    Ok(value(answer)? == 1)
 }
 
 /// The plan of a job, written to the front of a lent buffer.

@@ -1,6 +1,6 @@
 //! Calls each function of the static library from Rust. Every byte of a lent buffer is looked at, behind what was written too.
 
-use tirunoiwa::{cuts, narrowed, plan, star, touch, turned, walls, Narrowed};
+use tirunoiwa::{check, cuts, narrowed, plan, star, touch, turned, walls, Narrowed};
 use tirunoiwa::{cuts_into, narrowed_into, plan_into, star_into, turned_into, walls_into};
 use tirunoiwa::{Refusal, Touch, CUTS_MOST, JOB_MOST, PLAN_MOST, WALLS_MOST};
 
@@ -282,6 +282,28 @@ fn cuts_are_refused() {
     refuses(MOST, 1, |out| cuts_into(P3, out));
     refuses(0, 9, |out| cuts_into(P10, out));
     assert_eq!(cuts(PINWHEEL), Err(Refusal(15)));
+}
+
+/// Our own plans are good, a stretched one too; the plan of F turned is not good for F, and a plan of other vertices is refused.
+#[test]
+fn plans_drawn_elsewhere_are_judged() {
+    assert_eq!(check(F, F_PLAN), Ok(true));
+    assert_eq!(check(P9, P9_PLAN), Ok(true));
+    assert_eq!(check(F, P9_PLAN), Ok(false));
+    // Every line at thrice its place: the frame is three cells thick.
+    let mut stretched = F_PLAN.to_vec();
+    for place in (3..5).chain((5..stretched.len()).filter(|place| (place - 5) % 8 > 3)) {
+        stretched[place] *= 3;
+    }
+    assert_eq!(check(F, &stretched), Ok(true));
+    assert_eq!(check(&[F, SIZES].concat(), &stretched), Ok(true));
+    assert_eq!(check(&[F, SIZES].concat(), F_PLAN), Ok(false));
+    stretched[5 + 8 * 4 + 4] += 1;
+    assert_eq!(check(F, &stretched), Ok(false));
+    assert_eq!(check(F, &F_PLAN[..F_PLAN.len() - 1]), Err(Refusal(16)));
+    assert_eq!(check(F, &[]), Err(Refusal(16)));
+    assert_eq!(check(P3, F_PLAN), Err(Refusal(1)));
+    assert_eq!(check(P10, F_PLAN), Ok(false));
 }
 
 /// F turned is narrowed by one turn, and is F again; F is as narrow as it gets. With sizes, F turned is the narrower one, and stays.

@@ -36,7 +36,7 @@ pub record Draws (j : Job) (p : Plan) : Type 0 where
   pub order : (u : ℕ) → Room j u → InOrder p (straight (starOf j u))
 
 -- inside the sheet
-inside-of : (p : Plan) (r : Rect) → inside p r ≡ true → Inside p r
+pub inside-of : (p : Plan) (r : Rect) → inside p r ≡ true → Inside p r
 unfolding inside
 inside-of p r h =
     let (abc, d) = and-parts _ _ h in
@@ -51,7 +51,7 @@ inside-of p r h =
     }
 
 -- a rectangle of at least a cell inside the sheet passes the test
-of-inside : (p : Plan) (r : Rect) → Inside p r → inside p r ≡ true
+pub of-inside : (p : Plan) (r : Rect) → Inside p r → inside p r ≡ true
 unfolding inside
 of-inside p r i =
     and-both _ _ (and-both _ _ (and-both _ _ (lt-ltb (r .x1) (r .x2) (i .wide)) (lt-ltb (r .y1) (r .y2) (i .tall)))
@@ -116,12 +116,12 @@ module _ (j : Job) (ok : Passes j) (p : Plan) (c : Complete j p) where
   at-pair t h = at-pairwise t (p .rects) nowhere (λ u v l hv. h u v l (omega (arith, c .count)))
 
   -- a test that all rectangles pass, the rectangle of each vertex passes
-  rect-at : (t : Rect → Bool) → all t (p .rects) ≡ true → (v : ℕ) → Vertex j v → t (rectOf p v) ≡ true
+  pub rect-at : (t : Rect → Bool) → all t (p .rects) ≡ true → (v : ℕ) → Vertex j v → t (rectOf p v) ≡ true
   unfolding rectOf
   rect-at t h v hv = all-mem t (p .rects) h (rectOf p v) (mem-getD (p .rects) v nowhere (omega (arith, c .count)))
 
   -- a test that the rectangle of each vertex passes, all rectangles pass
-  at-rect : (t : Rect → Bool) → ((v : ℕ) → Vertex j v → t (rectOf p v) ≡ true) → all t (p .rects) ≡ true
+  pub at-rect : (t : Rect → Bool) → ((v : ℕ) → Vertex j v → t (rectOf p v) ≡ true) → all t (p .rects) ≡ true
   unfolding rectOf
   at-rect t h = all-at t (p .rects) nowhere (λ v hv. h v (omega (arith, c .count)))
 

@@ -64,6 +64,13 @@ isBase j i = lists (getD j i []) 1 1 && lists (getD j i []) 2 2
 unfoldable pub near : Job → Plan → Bool
 near j p = all (λ i. all (sideOk (starsOf j) (placeOf p) i) sides) (upFrom 0 (length j)) && eqb (total (length j) (λ i. cond (isBase j i) 1 0)) 1
 
+-- what the local test is for: each list tiles its side of the room, and one room stands in the corner between W and S
+pub record Rest (s : Stars) (p : Place) : Type 0 where
+  pub linked : (k : Side) (i : ℕ) → i < s .count → Linked (λ a b. p .at (next k) a + p .at (prev k) b ≡ size p (next k)) (s .list k i)
+  pub turns : (k : Side) (i : ℕ) → i < s .count → AtLast (λ a. AtFirst (λ b. Rounds p k (room i) a b) (s .list (next k) i)) (s .list k i)
+  pub base : (i : ℕ) × Base s i
+  pub base-one : (i j : ℕ) → Base s i → Base s j → i ≡ j
+
 -- the tests say what they should
 abuts-linked : (p : Place) (k : Side) (l : List Piece) → abuts p k l ≡ true → Linked (λ a b. p .at (next k) a + p .at (prev k) b ≡ size p (next k)) l
 unfolding abuts
@@ -191,22 +198,17 @@ module _ (j : Job) (ok : Passes j) where
       go true h = absurd (h refl)
       go false h = refl
 
-  module _ (pl : Plan) (ft : Fits (starsOf j) (placeOf pl)) where
-    -- what passes is local
-    near-local : near j pl ≡ true → Local (starsOf j) (placeOf pl)
+  module _ (pl : Plan) where
+    -- what the local test says, of any plan
+    pub near-rest : near j pl ≡ true → Rest (starsOf j) (placeOf pl)
     unfolding near sideOk starsOf
-    near-local e =
+    near-rest e =
         let (a, b) = and-parts (all (λ i. all (sideOk (starsOf j) (placeOf pl) i) sides) (upFrom 0 (length j))) (eqb (total (length j) one) 1) e in
         let t : total (length j) one ≡ 1 = eqb-true (total (length j) one) 1 b in
         let each : (k : Side) (i : ℕ) → i < length j → sideOk (starsOf j) (placeOf pl) i k ≡ true = λ k i h. all-mem (sideOk (starsOf j) (placeOf pl) i)
         sides (all-mem (λ i. all (sideOk (starsOf j) (placeOf pl) i) sides) (upFrom 0 (length j)) a i
         (upFrom-mem 0 (length j) i (omega arith) (omega arith))) k (side-mem k) in
         record {
-          shape = ft .shape;
-          inside = ft .inside;
-          thick = ft .thick;
-          within = ft .within;
-          meets = λ k i v h m. ft .meets k (room i) v h (named-known (starsOf j) k v (g .known k i v h m)) m;
           linked = λ k i h. abuts-linked (placeOf pl) k (starsOf j .list k i) (halves k i (each k i h) .0);
           turns = λ k i h. last-test _ _ (starsOf j .list k i) (λ a x. first-test _ _ (starsOf j .list (next k) i)
               (λ b y. turned-turns (placeOf pl) k (room i) a b y) x) (halves k i (each k i h) .1);
@@ -221,8 +223,25 @@ module _ (j : Job) (ok : Passes j) where
         halves k i e = and-parts (abuts (placeOf pl) k (starsOf j .list k i))
             (atLast (λ a. atFirst (λ b. turned (placeOf pl) k (room i) a b) (starsOf j .list (next k) i)) (starsOf j .list k i)) e
 
+    -- what passes is local, where the contacts are met
+    near-local : Fits (starsOf j) (placeOf pl) → near j pl ≡ true → Local (starsOf j) (placeOf pl)
+    unfolding starsOf
+    near-local ft e =
+        let r : Rest (starsOf j) (placeOf pl) = near-rest e in
+        record {
+          shape = ft .shape;
+          inside = ft .inside;
+          thick = ft .thick;
+          within = ft .within;
+          meets = λ k i v h m. ft .meets k (room i) v h (named-known (starsOf j) k v (g .known k i v h m)) m;
+          linked = r .linked;
+          turns = r .turns;
+          base = r .base;
+          base-one = r .base-one;
+        }
+
     -- what is local passes
-    local-near : Local (starsOf j) (placeOf pl) → near j pl ≡ true
+    pub local-near : Local (starsOf j) (placeOf pl) → near j pl ≡ true
     unfolding near sideOk starsOf
     local-near l =
         rw (mem-all (λ i. all (sideOk (starsOf j) (placeOf pl) i) sides) (upFrom 0 (length j)) (λ i m. mem-all (sideOk (starsOf j) (placeOf pl) i) sides
@@ -255,4 +274,4 @@ module _ (j : Job) (ok : Passes j) where
       forth e = good-drawable j ok p (plan-complete j f h) (good-plan j ok p (plan-complete j f h) (local-good (starsOf j) (placeOf p) g (near-local p ft e)))
 
       back : drawable j p ≡ true → near j p ≡ true
-      back e = local-near p ft (good-local (starsOf j) (placeOf p) g (drawable-good j ok p (plan-complete j f h) some-room ft e))
+      back e = local-near p (good-local (starsOf j) (placeOf p) g (drawable-good j ok p (plan-complete j f h) some-room ft e))

@@ -25,7 +25,7 @@ pub not-clear : {X : Type 0} {k n : ℕ} → clear ≡ wall k n → X
 not-clear e = let z : _≡_ {A = ℕ} 0 1 = cc in absurd (omega arith)
 
 -- the test of one side
-abbrev on : ℕ → Rect → Rect → Bool
+abbrev pub on : ℕ → Rect → Rect → Bool
 on k r s = onLine k r s && leb 1 (facing k r s)
 
 -- where it passes, they reach over one another by at least 1
@@ -50,7 +50,7 @@ unfolding overlap
 overlap-back a b c d = omega arith
 
 -- where the test of side k passes, s stands on side k of r
-on-stands : (k : ℕ) (r s : Rect) → on k r s ≡ true → Stands k r s
+pub on-stands : (k : ℕ) (r s : Rect) → on k r s ≡ true → Stands k r s
 unfolding onLine facing
 on-stands zero r s e = let (a, b) = and-parts _ _ e in wall-of (r .y2) (r .x1) (r .x2) (s .y1) (s .x1) (s .x2) a b
 on-stands (suc zero) r s e =
@@ -62,7 +62,7 @@ on-stands (suc (suc zero)) r s e =
 on-stands (suc (suc (suc k))) r s e = let (a, b) = and-parts _ _ e in wall-of (r .x2) (r .y1) (r .y2) (s .x1) (s .y1) (s .y2) a b
 
 -- where s stands on side k of r, the test of side k passes
-stands-on : (k : ℕ) (r s : Rect) → Stands k r s → on k r s ≡ true
+pub stands-on : (k : ℕ) (r s : Rect) → Stands k r s → on k r s ≡ true
 unfolding onLine facing
 stands-on zero r s w = and-both _ _ (eq-eqb (r .y2) (s .y1) (w .line)) (of-wall w)
 stands-on (suc zero) r s w =

@@ -33,12 +33,12 @@ unfolding isRoom
 room-is j v r = and-both _ _ (le-leb 4 v (r .0)) (vertex-is j v (r .1))
 
 -- a room is among the numbers of the job's rooms
-room-mem : (j : Job) (u : ℕ) → Room j u → List·Memᴰ u (rooms j)
+pub room-mem : (j : Job) (u : ℕ) → Room j u → List·Memᴰ u (rooms j)
 unfolding rooms
 room-mem j u r = upFrom-mem 4 (length j) u (r .0) (omega (arith, r .1))
 
 -- each of the numbers of a job's rooms is a room
-mem-room : (j : Job) (u : ℕ) → List·Memᴰ u (rooms j) → Room j u
+pub mem-room : (j : Job) (u : ℕ) → List·Memᴰ u (rooms j) → Room j u
 unfolding rooms
 mem-room j u m = let h : (4 ≤ u) × (u < 4 + length j) = mem-upFrom 4 (length j) u m in (h .0, omega (arith, h .1))
 
