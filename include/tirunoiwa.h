@@ -12,17 +12,19 @@
  *    6  a contact that one room lacks       14  the buffer is too short
  *   17  a least size outside 1 to 15, or    15  no straight cuts take the floor apart
  *       all of them 1                       16  not the bytes of a plan of the job's vertices
- *                                           18  the sheet is over 250 cells wide or high
+ *   19  a broken wrapper, or more than      18  the sheet is over 250 cells wide or high
+ *       200 jobs
  * 8 is not used. Of a job's refusals the first is told, in the order 1, 2, 1, 3, 4, 5, 6, 17, 7, 18, 9: of the first field, the number of rooms, the other
  * fields, and so on.
- * From 256 on it is 256 plus a value: the number of bytes written, how two vertices touch, how many turns were made, or 1 for yes and 0 for no.
+ * From 256 on it is 256 plus a value: the number of bytes or of figures written, how two vertices touch, how many turns were made, or 1 for yes and 0 for no.
  *
  * tirunoiwa_share, which told yes or no, is gone; tirunoiwa_touch stands in its place, and tells no wall exactly where it told no.
  *
- * Bytes of `out` behind those that were written stay as they were.
+ * Bytes of `out`, and places of `figures`, behind those that were written stay as they were.
  *
- * The caller owes: each pointer is not null, even where its length is 0, and valid for its length, and a length is below 2^63; `job` and `out` do not
- * overlap; during the call nobody else writes `job`, or reads or writes `out`. A call takes at most 32 KiB of stack.
+ * The caller owes: each pointer is not null, even where its length is 0, aligned as its type asks, and valid for its length, and a length is below 2^63 bytes;
+ * what is read (`job`, `jobs`, `plan`) does not overlap what is written (`out`, `figures`); during the call nobody else writes the one, or reads or writes the
+ * other. A call takes at most 32 KiB of stack.
  */
 #ifndef TIRUNOIWA_H
 #define TIRUNOIWA_H
@@ -91,6 +93,18 @@ size_t tirunoiwa_touch(const uint8_t *job, size_t job_length, size_t u, size_t v
  * in order; every room has at least its size. Answers 256 for no, 257 for yes, or 1 to 6, 17, then 16 for bytes that are not a plan of just the job's vertices.
  */
 size_t tirunoiwa_check(const uint8_t *job, size_t job_length, const uint8_t *plan, size_t plan_length);
+
+/* How many figures the season's totals have. */
+#define TIRUNOIWA_FIGURES 16
+
+/*
+ * The season's totals of up to 200 jobs, each wrapped in a field of tag 9, one behind the other to the end of `jobs`; no jobs are noughts. Writes to the front of
+ * `figures`: how many jobs were accepted; how many fell to 1, 2, 3, 4, 5, 6, 7, 9, 17, 18; and, over the accepted ones alone, the sums of widths, of heights, of
+ * room cells, of frame cells, and of sheet cells (width times height). A job that is refused changes nothing but its own count; the counts together are the
+ * jobs, and room cells plus frame cells are sheet cells. Answers 256 + 16, or 19 for a broken wrapper or more than 200 jobs, then 14 where `figures` has fewer
+ * than 16 places. `jobs_length` counts bytes, `figures_length` places.
+ */
+size_t tirunoiwa_totals(const uint8_t *jobs, size_t jobs_length, uint64_t *figures, size_t figures_length);
 
 /* The number of the refusal, or 0 where the answer is none. */
 static inline unsigned tirunoiwa_refused(size_t answer)

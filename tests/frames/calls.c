@@ -64,9 +64,9 @@ static struct call calls[] = {
     CALL(tirunoiwa_plan), CALL(tirunoiwa_turned), CALL(tirunoiwa_star), CALL(tirunoiwa_touch), CALL(tirunoiwa_walls),  CALL(board_load),
     CALL(board_turn),     CALL(board_rectangle),  CALL(board_touches),  CALL(board_write_job), CALL(board_write_plan), CALL(board_write_walls),
     CALL(tirunoiwa_cuts), CALL(board_slices),     CALL(board_write_cuts), CALL(tirunoiwa_narrow), CALL(board_narrow),
-    CALL(tirunoiwa_check),
+    CALL(tirunoiwa_check), CALL(tirunoiwa_totals),
 };
-enum { PLAN, TURNED, STAR, TOUCH, WALLS, LOAD, TURN, RECTANGLE, TOUCHES, WRITE_JOB, WRITE_PLAN, WRITE_WALLS, CUTS, SLICES, WRITE_CUTS, NARROWED, NARROW, CHECK };
+enum { PLAN, TURNED, STAR, TOUCH, WALLS, LOAD, TURN, RECTANGLE, TOUCHES, WRITE_JOB, WRITE_PLAN, WRITE_WALLS, CUTS, SLICES, WRITE_CUTS, NARROWED, NARROW, CHECK, TOTALS };
 
 static const char *under_way = "";
 static uint8_t job[MOST];
@@ -158,6 +158,31 @@ static size_t make_on_board(size_t which, const struct held *held, size_t a, siz
     return told.answer;
 }
 
+/* The season's totals of a job that is wrapped twice: it is accepted twice, or falls twice to the refusal that a load gives. */
+static void on_season(size_t length, size_t loaded)
+{
+    static const uint8_t refusals[] = {1, 2, 3, 4, 5, 6, 7, 9, 17, 18};
+    static uint8_t jobs[2 * (3 + MOST)];
+    static uint64_t figures[TIRUNOIWA_FIGURES];
+    size_t line = 0;
+    for (size_t i = 0; i < SIZE(refusals); i++) {
+        line = refusals[i] == loaded ? 1 + i : line;
+    }
+    for (size_t i = 0; i < 2; i++) {
+        uint8_t *const wrapper = jobs + i * (3 + length);
+        wrapper[0] = 9;
+        wrapper[1] = (uint8_t)(length / 256);
+        wrapper[2] = (uint8_t)(length % 256);
+        memcpy(wrapper + 3, job, length);
+    }
+    if (make(TOTALS, NULL, (size_t)jobs, 2 * (3 + length), (size_t)figures, SIZE(figures), 0, 0) != 256 + TIRUNOIWA_FIGURES || figures[line] != 2) {
+        stop("tirunoiwa_totals", "not twice what a load of the job is");
+    }
+    if (make(TOTALS, NULL, (size_t)jobs, 2 * (3 + length) - 1, (size_t)figures, SIZE(figures), 0, 0) != 19) {
+        stop("tirunoiwa_totals", "19 is not given for a wrapper cut short");
+    }
+}
+
 /* Every call on a job: each contact turned, each room asked for, each pair asked about. */
 static void on_job(size_t length)
 {
@@ -170,6 +195,7 @@ static void on_job(size_t length)
     if (tirunoiwa_refused(planned) != (loaded == 256 ? 0 : loaded)) {
         stop("board_load", "not the answer of tirunoiwa_plan");
     }
+    on_season(length, loaded);
     for (size_t u = 0; u < VERTICES; u++) {
         make(STAR, NULL, bytes, length, u, lent, MOST, 0);
         make_on_board(RECTANGLE, &held, u, 0);

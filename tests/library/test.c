@@ -123,6 +123,7 @@ static const uint8_t P10[] = {
 static const uint8_t STAR_6[] = {4, 0, 1, 1, 2, 2, 7, 3, 5, 3};
 
 static uint8_t lent[MOST];
+static uint64_t places[TIRUNOIWA_FIGURES + 4];
 static unsigned calls = 0;
 static unsigned wrong = 0;
 
@@ -367,6 +368,77 @@ static void checks(void)
     refused("no rooms", tirunoiwa_check(P2, SIZE(P2), F_PLAN, SIZE(F_PLAN)), 2);
 }
 
+/* A job in its wrapper. */
+static uint8_t *put_wrapped(uint8_t *at, const uint8_t *job, size_t length)
+{
+    const uint8_t head[] = {9, (uint8_t)(length / 256), (uint8_t)(length % 256)};
+    return put_bytes(put_bytes(at, head, SIZE(head)), job, length);
+}
+
+static uint64_t *lend_places(void)
+{
+    for (size_t i = 0; i < SIZE(places); i++) {
+        places[i] = before(i);
+    }
+    return places;
+}
+
+/* The answer, the figures, and every place behind them; none was written where they are NULL. */
+static void figured(const char *what, size_t answer, size_t wanted, const uint64_t *figures)
+{
+    const size_t many = figures == NULL ? 0 : TIRUNOIWA_FIGURES;
+    calls++;
+    if (answer != wanted || (figures == NULL ? tirunoiwa_refused(answer) != wanted : tirunoiwa_value(answer) != many)) {
+        complain(what, "not the answer", answer);
+    }
+    for (size_t i = 0; i < SIZE(places); i++) {
+        if (places[i] != (i < many ? figures[i] : before(i))) {
+            complain(what, i < many ? "not the figures" : "a place behind was touched", answer);
+            break;
+        }
+    }
+}
+
+/*
+ * F is 4 by 5 with 6 cells of rooms, P9 5 by 4 with 6, F with sizes 7 by 8 with 30; P2 falls to 2, no bytes to 1, P10 to 9. No jobs are noughts, 200 are told,
+ * 201 are refused, and so is a wrapper that is cut short, has another tag or a byte behind it; 19 comes before 14.
+ */
+static void totals(void)
+{
+    static uint8_t jobs[201 * (3 + SIZE(F))];
+    static const uint64_t noughts[TIRUNOIWA_FIGURES] = {0};
+    static const uint64_t mixed[TIRUNOIWA_FIGURES] = {4, 1, 2, 0, 0, 0, 0, 0, 1, 0, 0, 20, 22, 48, 68, 116};
+    static const uint64_t many[TIRUNOIWA_FIGURES] = {200, 0, 0, 0, 0, 0, 0, 0, 0, 0, 0, 800, 1000, 1200, 2800, 4000};
+    const size_t one = 3 + SIZE(F);
+    uint8_t *end = put_wrapped(jobs, F, SIZE(F));
+    end = put_wrapped(end, P2, SIZE(P2));
+    end = put_wrapped(end, P9, SIZE(P9));
+    end = put_wrapped(end, P10, SIZE(P10));
+    end = put_wrapped(end, SIZED, SIZE(SIZED));
+    end = put_wrapped(end, P3, 0);
+    end = put_wrapped(end, F, SIZE(F));
+    end = put_wrapped(end, P2, SIZE(P2));
+    const size_t length = (size_t)(end - jobs);
+    figured("a season", tirunoiwa_totals(jobs, length, lend_places(), SIZE(places)), 272, mixed);
+    figured("a season, no place to spare", tirunoiwa_totals(jobs, length, lend_places(), TIRUNOIWA_FIGURES), 272, mixed);
+    figured("no jobs", tirunoiwa_totals(jobs, 0, lend_places(), SIZE(places)), 272, noughts);
+    figured("a season, a place too short", tirunoiwa_totals(jobs, length, lend_places(), TIRUNOIWA_FIGURES - 1), 14, NULL);
+    figured("no jobs into no places", tirunoiwa_totals(jobs, 0, lend_places(), 0), 14, NULL);
+    figured("a season cut short", tirunoiwa_totals(jobs, length - 1, lend_places(), SIZE(places)), 19, NULL);
+    figured("a byte behind", tirunoiwa_totals(jobs, length + 1, lend_places(), SIZE(places)), 19, NULL);
+    figured("a job without its wrapper", tirunoiwa_totals(F, SIZE(F), lend_places(), SIZE(places)), 19, NULL);
+    figured("cut short before a short buffer", tirunoiwa_totals(jobs, 2, lend_places(), 0), 19, NULL);
+    jobs[one] = 8;
+    figured("a wrapper of tag 8", tirunoiwa_totals(jobs, length, lend_places(), SIZE(places)), 19, NULL);
+    end = jobs;
+    for (size_t i = 0; i < 201; i++) {
+        end = put_wrapped(end, F, SIZE(F));
+    }
+    figured("200 jobs", tirunoiwa_totals(jobs, 200 * one, lend_places(), SIZE(places)), 272, many);
+    figured("201 jobs", tirunoiwa_totals(jobs, 201 * one, lend_places(), SIZE(places)), 19, NULL);
+    figured("201 jobs before a short buffer", tirunoiwa_totals(jobs, 201 * one, lend_places(), 0), 19, NULL);
+}
+
 /* Least sizes: planned, kept by a turn, refused by 17, and by 1 where their field is too short. */
 static void sizes(void)
 {
@@ -455,6 +527,7 @@ int main(void)
     turns();
     narrowings();
     checks();
+    totals();
     sizes();
     rows_of_wide_rooms();
     stars();

@@ -4,7 +4,7 @@ use mathlib.Core.Path.{_≡_, ap}
 use mathlib.Core.Logic.{_⊎_, _↔_}
 use mathlib.Core.Bool.{true}
 use mathlib.Core.Option.{some}
-use mathlib.Core.List.{List, map, List·Memᴰ, []}
+use mathlib.Core.List.{List, map, List·Memᴰ, [], _∷_, _++_}
 use lib.ListN.{length}
 use Rattle.floor.specs.Lists.{sum}
 use lib.Dec.{eqb}
@@ -43,6 +43,10 @@ use Rattle.floor.specs.Calls.{narrows, made, slims, Narrowed}
 use Rattle.floor.specs.Calls.Narrowing.{narrows-refused, narrows-made, narrows-only}
 use Rattle.floor.specs.Foreign.{refuses, answers, judged, GoodFor, RefusedBy}
 use Rattle.floor.specs.Foreign.Judged.{yes-exactly, refused-exactly, sixteen, ours-yes, held-yes, yes-loads, good-loads-plain}
+use Rattle.floor.specs.Totals.{Jobs, accepts, fellTo, ofPlan, roomCells, frameCells, sheetCells, refusals, over, wrap, figures, tells, refusesAll, season}
+use Rattle.floor.specs.Totals.{OwnCount, Shuffled}
+use Rattle.floor.specs.Totals.Wrapped.{season-wrap, nineteen}
+use Rattle.floor.specs.Totals.Figures.{counted, cells, one-bad, any-order, figures-small}
 
 -- DEMAND 1. Every job, however damaged or contradictory, gets an answer: a plan or one numbered refusal.
 pub every-job-answered : (bs : List ℕ) → Answers ofLoad (load bs)
@@ -321,6 +325,34 @@ elsewhere-held cs o p h = held-yes o p (any-calls-sound cs o p h)
 -- A job that gets yes with any plan is one that our load accepts, but for the sheet's limit.
 pub elsewhere-loads : (job plan : List ℕ) → judged job plan ≡ answers true → (o : SizedJob) × Loads job o
 elsewhere-loads = yes-loads
+
+-- THE SEASON'S TOTALS (W12). Of up to 200 wrapped jobs the figures are told;
+pub totals-told : (js : Jobs) → length js ≤ 200 → season (wrap js) ≡ tells (figures js)
+totals-told = season-wrap
+
+-- of any other bytes nothing but 19.
+pub totals-refused : (bs : List ℕ) → Bytes bs → (season bs ≡ refusesAll 19) ↔ ((js : Jobs) → length js ≤ 200 → wrap js ≡ bs → ⊥)
+totals-refused = nineteen
+
+-- The accepted and refused counts together equal the jobs read;
+pub totals-counted : (js : Jobs) → over accepts js + sum (map (λ k. over (fellTo k) js) refusals) ≡ length js
+totals-counted = counted
+
+-- room cells plus frame cells equal sheet cells;
+pub totals-cells : (js : Jobs) → over (ofPlan roomCells) js + over (ofPlan frameCells) js ≡ over (ofPlan sheetCells) js
+totals-cells = cells
+
+-- one bad job, wherever it stands, changes nothing but its own count;
+pub totals-bad : (xs : Jobs) (b : List ℕ) (ys : Jobs) (k : ℕ) → load b ≡ refused k → OwnCount k (xs ++ ys) (xs ++ b ∷ ys)
+totals-bad = one-bad
+
+-- the order of the jobs does not matter;
+pub totals-order : (js ks : Jobs) → Shuffled js ks → figures js ≡ figures ks
+totals-order = any-order
+
+-- and no figure is above 200 times 250 times 250.
+pub totals-small : (js : Jobs) → length js ≤ 200 → (n : ℕ) → List·Memᴰ n (figures js) → n ≤ 12500000
+totals-small = figures-small
 
 -- STARTS. Jobs that differ only in their starts get equal plans, or the same refusal;
 pub starts-alike : (bs cs : List ℕ) (o i : SizedJob) → readJob bs ≡ reads o → readJob cs ≡ reads i → SameButStarts o i → Alike (load bs) (load cs)

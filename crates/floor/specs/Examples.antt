@@ -22,8 +22,8 @@ use Rattle.floor.specs.Cuts.{writeTree, roomsOf, inner, planTree, isTree
 use Rattle.floor.specs.Turns.{turnedKind, withKind, endsAt, isLast, turned, turningAt, turningFrom, inContact, turning, turn}
 use Rattle.floor.specs.Narrow.{stacked, narrower, turnNarrows, orElse, firstWith, firstPair, turnFound, narrowOnce, onward, rounds, narrowed}
 use Rattle.floor.specs.Calls.{Board, empty, holding, Call, loads, turns, rectangle, writesJob, writesPlan, Reply, refusal, done, spans, wrote, Step, load}
-use Rattle.floor.specs.Calls.{narrows, made, slims}
-use Rattle.floor.specs.Calls.{refuse, after, asks, writes, step, run, touches, touch, touching, writesRegister, slices, writesCuts, says, writesTree}
+use Rattle.floor.specs.Calls.{narrows, made, slims, refuse, after, asks, writes, step, run, touches, touch, touching, writesRegister, slices, writesCuts}
+use Rattle.floor.specs.Calls.{says, writesTree}
 
 -- P1: one room
 unfoldable pub p1 : List ℕ
@@ -46,7 +46,7 @@ p6 =
     ∷ 2 ∷ 0 ∷ 8 ∷ 0 ∷ 0 ∷ 1 ∷ 1 ∷ 2 ∷ 2 ∷ 3 ∷ 3 ∷ []
 
 -- P7: rooms 4, 5, 6, each right of the one before, 4 right of 6
-p7 : List ℕ
+unfoldable pub p7 : List ℕ
 p7 =
     1 ∷ 0 ∷ 1 ∷ 3
     ∷ 2 ∷ 0 ∷ 8 ∷ 0 ∷ 0 ∷ 6 ∷ 1 ∷ 2 ∷ 2 ∷ 5 ∷ 3
@@ -207,17 +207,17 @@ wheel =
     ∷ 2 ∷ 0 ∷ 8 ∷ 4 ∷ 0 ∷ 7 ∷ 1 ∷ 6 ∷ 2 ∷ 5 ∷ 3 ∷ []
 
 -- the star of room v of n in a row: N above, to the left the room before or W, S below, to the right the room after or E
-unfoldable rowStar : ℕ → ℕ → Star
+unfoldable pub rowStar : ℕ → ℕ → Star
 rowStar n v =
     record { to = 0; kind = 0 } ∷ record { to = cond (eqb v 4) 1 (v - 1); kind = 1 } ∷ record { to = 2; kind = 2 }
     ∷ record { to = cond (eqb v (n + 3)) 3 (v + 1); kind = 3 } ∷ []
 
 -- n rooms in a row
-unfoldable row : ℕ → Job
+unfoldable pub row : ℕ → Job
 row n = map (rowStar n) (upFrom 4 n)
 
 -- the same, each at least 15 wide
-unfoldable wideRow : ℕ → SizedJob
+unfoldable pub wideRow : ℕ → SizedJob
 wideRow n = sizedJob (row n) (replicate n (record { wide = 15; tall = 1 }))
 
 -- the numbers of some rectangles

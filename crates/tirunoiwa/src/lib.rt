@@ -5,6 +5,7 @@ ghost use Rattle.floor.specs.Calls.{empty, loads, step};
 ghost use Rattle.floor.specs.Tracker.{planOfJob, wallsOfJob, cutsOfJob, turnedOfJob, narrowedOfJob, touchOfJob, starOfJob, code};
 ghost use Rattle.floor.specs.Foreign.{judged};
 ghost use Rattle.floor.specs.Verdicts.{verdictCode};
+ghost use Rattle.floor.specs.Totals.{season, seasonIn};
 ghost use Rattle.board.specs.Boards.{boardOf, outcome, Tells};
 ghost use Rattle.board.specs.Reach.{Reached};
 ghost use Rattle.tirunoiwa.specs.Left.{Left, changing};
@@ -207,4 +208,13 @@ pub extern "C" fn tirunoiwa_check<'a>(job: &'a [u8], plan: &'a [u8]) -> usize
             FIRST_VALUE
         }
     }
+}
+
+// The season's totals of some wrapped jobs, in a lent buffer of numbers; how many they are is told.
+#[no_mangle]
+pub extern "C" fn tirunoiwa_totals<'a>(jobs: &'a [u8], figures: &mut [usize]) -> usize
+    ensures { λ r. ⌜ (r ≡ seasonIn (season (now (jobs .entry))) (now (figures .entry)) .number)
+        × (now (figures .exit) ≡ seasonIn (season (now (jobs .entry))) (now (figures .entry)) .figures) ⌝ }
+{
+    season::totals(jobs, figures)
 }

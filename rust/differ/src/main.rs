@@ -1,10 +1,12 @@
 //! Puts many jobs and calls to the reference and to the built programs `calls`, `listing`, `doors`, `walls_list`, `cuts_list`, `narrow_job`, `draw`,
-//! `job_to_text` and `text_to_job`, and compares every line.
+//! `job_to_text`, `text_to_job` and `totals`, and compares every line.
 
 mod alone;
+mod batches;
 mod circle;
 mod damage;
 mod marks;
+mod miscounts;
 mod misfits;
 mod pairs;
 mod picture;
@@ -25,15 +27,15 @@ use floors::Chance;
 use picture::Marked;
 use planner::{hex, OneJob};
 use programs::UnderTest;
-use reference::Board;
-use shrink::{both_texts, first_difference, Shrinker};
+use reference::{totals, Board};
+use shrink::{both_texts, both_totals, first_difference, Shrinker};
 use std::process::ExitCode;
 use std::time::Instant;
 use streams::{make_stream, Budget};
 use table::Table;
 
 const USAGE: &str = "differ [--short | --long] [--seed N] [--jobs N] [--calls N] [--pairs N] \
-    [--listings N] [--doors N] [--walls N] [--cuts N] [--narrows N] [--checks N] [--pictures N] [--texts N] [--runner PATH] [--slip NAME] [--reference]";
+    [--listings N] [--doors N] [--walls N] [--cuts N] [--narrows N] [--checks N] [--pictures N] [--texts N] [--batches N] [--runner PATH] [--slip NAME] [--reference]";
 
 struct Options {
     seed: u64,
@@ -48,6 +50,7 @@ struct Options {
     checks: usize,
     pictures: usize,
     texts: usize,
+    batches: usize,
     under_test: UnderTest,
 }
 
@@ -58,7 +61,7 @@ fn main() -> ExitCode {
     };
     let begun = Instant::now();
     println!(
-        "seed {}, {} jobs, {} other calls, {} pairs of starts, {} listings, {} lists of doors, {} of walls, {} of cuts, {} narrowed, {} plans checked, {} pictures, {} texts",
+        "seed {}, {} jobs, {} other calls, {} pairs of starts, {} listings, {} lists of doors, {} of walls, {} of cuts, {} narrowed, {} plans checked, {} pictures, {} texts, {} batches",
         options.seed,
         options.jobs,
         options.calls,
@@ -70,7 +73,8 @@ fn main() -> ExitCode {
         options.narrows,
         options.checks,
         options.pictures,
-        options.texts
+        options.texts,
+        options.batches
     );
     let mut table = Table::default();
     let same = compare_calls(&options, &mut table)
@@ -82,20 +86,24 @@ fn main() -> ExitCode {
         && compare_narrowed(&options, &mut table)
         && compare_checks(&options, &mut table)
         && compare_pictures(&options, &mut table)
-        && compare_texts(&options, &mut table);
+        && compare_texts(&options, &mut table)
+        && compare_batches(&options, &mut table);
     table.print();
     println!(
         "{} cases in {:.1} seconds",
         table.cases(),
         begun.elapsed().as_secs_f64()
     );
-    if same {
-        println!("no difference");
-        ExitCode::SUCCESS
-    } else {
+    // A comparison that never met a case says nothing of it.
+    if !same {
         println!("DIFFERENT");
-        ExitCode::FAILURE
+    } else if table.batches.lacks() {
+        println!("no difference, but the batches lack something");
+    } else {
+        println!("no difference");
+        return ExitCode::SUCCESS;
     }
+    ExitCode::FAILURE
 }
 
 fn read_options() -> Option<Options> {
@@ -112,6 +120,7 @@ fn read_options() -> Option<Options> {
         checks: 10_000,
         pictures: 200,
         texts: 300,
+        batches: 60,
         under_test: UnderTest::Runner("../bin/run".to_string()),
     };
     let mut words = std::env::args().skip(1);
@@ -125,6 +134,7 @@ fn read_options() -> Option<Options> {
                 (options.walls, options.cuts) = (3_000, 3_000);
                 (options.narrows, options.checks) = (3_000, 200_000);
                 (options.pictures, options.texts) = (2_000, 3_000);
+                options.batches = 1_000;
             }
             "--seed" => options.seed = words.next()?.parse().ok()?,
             "--jobs" => options.jobs = words.next()?.parse().ok()?,
@@ -138,11 +148,13 @@ fn read_options() -> Option<Options> {
             "--checks" => options.checks = words.next()?.parse().ok()?,
             "--pictures" => options.pictures = words.next()?.parse().ok()?,
             "--texts" => options.texts = words.next()?.parse().ok()?,
+            "--batches" => options.batches = words.next()?.parse().ok()?,
             "--runner" => options.under_test = UnderTest::Runner(words.next()?),
             "--reference" => options.under_test = UnderTest::Reference,
             "--slip" => {
                 let name = words.next()?;
-                let mut all = slips::ALL.iter().chain(&slips::OF_TEXTS);
+                let besides = slips::OF_TEXTS.iter().chain(&slips::OF_TOTALS);
+                let mut all = slips::ALL.iter().chain(besides);
                 let slip = all.find(|slip| format!("{slip:?}") == name)?;
                 options.under_test = UnderTest::Slipped(*slip);
             }
@@ -298,6 +310,35 @@ fn compare_texts(options: &Options, table: &mut Table) -> bool {
         }
     }
     true
+}
+
+/// Batches of wrapped jobs, one process each.
+fn compare_batches(options: &Options, table: &mut Table) -> bool {
+    let mut chance = Chance::new(options.seed ^ 0x746f_7461);
+    for round in 0..options.batches {
+        // Each batch has its own seed, as each stream.
+        let mut own = Chance::new(chance.next());
+        let batch = batches::batch_of(&mut own, round);
+        let stream = batch.pieces.concat();
+        let expected = totals::text(&stream);
+        table.batches.count(&batch, &expected);
+        if options.under_test.totals(&stream) != expected {
+            show_batch_difference(options, batch);
+            return false;
+        }
+    }
+    true
+}
+
+fn show_batch_difference(options: &Options, batch: batches::Batch) {
+    println!("difference in the totals of a batch of {:?}", batch.sort);
+    let small = Shrinker::shrink_batch(&options.under_test, batch.pieces);
+    let (expected, found) = both_totals(&options.under_test, &small);
+    println!("shrunk to {} wrapped jobs, one a line:", small.len());
+    for piece in &small {
+        println!("  {}", hex(piece));
+    }
+    println!("reference:\n{expected}program:\n{found}");
 }
 
 /// Whether both are the same; if not, all three are shown.

@@ -1,9 +1,10 @@
 //! The planner under test: the built programs, or, to try the comparison itself, a planner with a known slip or with none.
 
+use crate::miscounts;
 use crate::planner::{calls_text, narrowed, OneJob};
 use crate::slips::{Slip, SlippedBoard};
 use crate::texts::{job_of, text_of};
-use reference::Board;
+use reference::{totals, Board};
 use std::io::{Read, Write};
 use std::process::{Child, Command, Stdio};
 use std::sync::mpsc;
@@ -51,6 +52,15 @@ impl UnderTest {
             UnderTest::Runner(path) => run_bytes(path, "narrow_job", job),
             UnderTest::Slipped(slip) => narrowed(&mut SlippedBoard::empty(*slip), job),
             UnderTest::Reference => narrowed(&mut Board::empty(), job),
+        }
+    }
+
+    /// The season's totals of a wrapped stream.
+    pub fn totals(&self, stream: &[u8]) -> String {
+        match self {
+            UnderTest::Runner(path) => run(path, "totals", stream),
+            UnderTest::Slipped(slip) => miscounts::text(*slip, stream),
+            UnderTest::Reference => totals::text(stream),
         }
     }
 

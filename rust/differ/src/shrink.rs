@@ -1,18 +1,22 @@
 //! A difference made small: calls left out while it stays, then stars, entries, sizes and bytes of the jobs, then starts elsewhere.
 
+use crate::batches::WRAPPER;
 use crate::circle::{gap, list};
 use crate::planner::{calls_text, LOAD, STAR};
 use crate::programs::UnderTest;
 use reference::fields::{put_field, Reader};
-use reference::Board;
+use reference::{totals, Board};
 
 /// Enough to get small, and an end even if every try takes a second.
 const MOST_TRIES: usize = 4_000;
 /// So many pairs a job may have.
 const MOST_PAIRS: usize = 360;
+/// Of more wrapped jobs than these none is made smaller: each try would go over all of them.
+const FEW_JOBS: usize = 8;
 
 pub struct Shrinker<'a> {
     under_test: &'a UnderTest,
+    both: fn(&UnderTest, &[Vec<u8>]) -> (String, String),
     tries: usize,
 }
 
@@ -21,6 +25,12 @@ pub fn both_texts(under_test: &UnderTest, pieces: &[Vec<u8>]) -> (String, String
     let stream = pieces.concat();
     let expected = calls_text(&mut Board::empty(), &stream);
     (expected, under_test.calls(&stream))
+}
+
+/// Both texts for a batch in pieces.
+pub fn both_totals(under_test: &UnderTest, pieces: &[Vec<u8>]) -> (String, String) {
+    let stream = pieces.concat();
+    (totals::text(&stream), under_test.totals(&stream))
 }
 
 /// The number of the first line that differs.
@@ -36,13 +46,28 @@ impl<'a> Shrinker<'a> {
     pub fn new(under_test: &'a UnderTest) -> Self {
         Shrinker {
             under_test,
+            both: both_texts,
             tries: 0,
         }
     }
 
+    /// A batch of wrapped jobs made small.
+    pub fn shrink_batch(under_test: &'a UnderTest, pieces: Vec<Vec<u8>>) -> Vec<Vec<u8>> {
+        let mut shrinker = Shrinker {
+            under_test,
+            both: both_totals,
+            tries: 0,
+        };
+        let pieces = shrinker.leave_out(pieces);
+        if pieces.len() > FEW_JOBS {
+            return pieces;
+        }
+        shrinker.shrink_jobs(pieces)
+    }
+
     pub fn shrink(&mut self, pieces: Vec<Vec<u8>>) -> Vec<Vec<u8>> {
         let pieces = self.cut_behind(pieces);
-        let pieces = self.leave_out_calls(pieces);
+        let pieces = self.leave_out(pieces);
         self.shrink_jobs(pieces)
     }
 
@@ -51,7 +76,7 @@ impl<'a> Shrinker<'a> {
         if self.tries > MOST_TRIES {
             return false;
         }
-        let (expected, found) = both_texts(self.under_test, pieces);
+        let (expected, found) = (self.both)(self.under_test, pieces);
         expected != found
     }
 
@@ -67,7 +92,7 @@ impl<'a> Shrinker<'a> {
         }
     }
 
-    fn leave_out_calls(&mut self, mut pieces: Vec<Vec<u8>>) -> Vec<Vec<u8>> {
+    fn leave_out(&mut self, mut pieces: Vec<Vec<u8>>) -> Vec<Vec<u8>> {
         let mut width = pieces.len().div_ceil(2);
         while width > 0 {
             let mut start = 0;
@@ -107,7 +132,7 @@ impl<'a> Shrinker<'a> {
 /// Calls with a smaller job, best first; none for calls without a job.
 fn smaller_calls(piece: &[u8]) -> Vec<Vec<u8>> {
     let front = match piece.first() {
-        Some(&LOAD) => 3,
+        Some(&LOAD | &WRAPPER) => 3,
         Some(&STAR) if piece.len() >= 5 => 5,
         _ => return Vec::new(),
     };

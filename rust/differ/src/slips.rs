@@ -191,6 +191,46 @@ pub enum Slip {
     TextSizesUntold,
     /// A text in which every size is 1 by 1 makes a job with a field of ones.
     TextOnesRead,
+    /// The width of a refused job is added, where its walls have numbers.
+    RefusedWidthAdded,
+    /// A refused job adds the sheet of the job before it, which is still held.
+    HeldAgain,
+    /// Nothing is counted behind the first job that is refused.
+    StopsAtRefusal,
+    /// Only the last job is counted.
+    LastJobOnly,
+    /// An empty job is passed over.
+    EmptyPassedOver,
+    /// A job longer than other programs read counts under 1.
+    LongJobIsOne,
+    /// A job that falls to 9 counts under 7.
+    NineUnderSeven,
+    /// The frame's cells stay nought.
+    FrameForgotten,
+    /// The sheet's cells are those of the rooms.
+    SheetWithoutFrame,
+    /// The sheet's cells are the sum of widths times that of heights.
+    SheetOfSums,
+    /// Heights come before widths.
+    HeightsFirst,
+    /// The frame's cells come before those of rooms.
+    FrameFirst,
+    /// The refusals in the order of their tests, not of their numbers.
+    LinesByTests,
+    /// Figures cut to sixteen bits.
+    SixteenBits,
+    /// 201 jobs are taken.
+    OneJobMore,
+    /// 200 jobs are too many.
+    OneJobLess,
+    /// A broken wrapper ends the list.
+    BrokenEndsList,
+    /// A field of any tag is taken for a wrapper.
+    AnyWrapper,
+    /// No jobs are refused by 19.
+    NoJobsRefused,
+    /// The figures of the jobs before a broken wrapper are told, and then 19.
+    FiguresBefore19,
 }
 
 /// Those that calls show.
@@ -287,6 +327,30 @@ pub const OF_TEXTS: [Slip; 4] = [
     Slip::TextOnesTold,
     Slip::TextSizesUntold,
     Slip::TextOnesRead,
+];
+
+/// Those that only the season's totals show.
+pub const OF_TOTALS: [Slip; 20] = [
+    Slip::RefusedWidthAdded,
+    Slip::HeldAgain,
+    Slip::StopsAtRefusal,
+    Slip::LastJobOnly,
+    Slip::EmptyPassedOver,
+    Slip::LongJobIsOne,
+    Slip::NineUnderSeven,
+    Slip::FrameForgotten,
+    Slip::SheetWithoutFrame,
+    Slip::SheetOfSums,
+    Slip::HeightsFirst,
+    Slip::FrameFirst,
+    Slip::LinesByTests,
+    Slip::SixteenBits,
+    Slip::OneJobMore,
+    Slip::OneJobLess,
+    Slip::BrokenEndsList,
+    Slip::AnyWrapper,
+    Slip::NoJobsRefused,
+    Slip::FiguresBefore19,
 ];
 
 /// Those that a job and the same job started elsewhere show without the reference.

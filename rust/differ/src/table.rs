@@ -1,5 +1,6 @@
 //! How often each answer was seen.
 
+use crate::batches::Tally;
 use crate::picture::Marked;
 use crate::planner::{
     OneJob, Outcome, CHECK, LOAD, NARROW, RECTANGLE, SLICEABLE, STAR, TOUCH, TURN,
@@ -31,6 +32,8 @@ pub struct Table {
     narrowed: BTreeMap<String, u64>,
     /// Good plans that are not ours.
     pub good_elsewhere: u64,
+    /// Batches of wrapped jobs.
+    pub batches: Tally,
     pub turned_back: u64,
     pub plans_checked: u64,
 }
@@ -130,6 +133,7 @@ impl Table {
             .chain(self.narrowed.values())
             .chain(self.pictures.values())
             .chain(self.texts.values())
+            .chain([&self.batches.batches()])
             .sum()
     }
 
@@ -215,6 +219,11 @@ impl Table {
         }
         println!("pictures: {}", in_words(&self.pictures));
         println!("texts: {}", in_words(&self.texts));
+        println!("batches: {}", self.batches.in_words());
+        println!(
+            "never came up in a batch: {}",
+            none_or(&self.batches.never())
+        );
         let never: Vec<String> = REFUSALS
             .into_iter()
             .filter(|&number| {

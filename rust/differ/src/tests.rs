@@ -1,5 +1,6 @@
 //! The comparison tried on itself: every known slip is found and shrunk, and the reference agrees with itself.
 
+use crate::batches::{batch_of, Batch, Sort, Tally, SORTS};
 use crate::damage::finished_floor;
 use crate::listing_job;
 use crate::pairs::first_unlike;
@@ -7,10 +8,10 @@ use crate::picture::{listing_shown, Marked};
 use crate::planner::{narrowed, OneJob};
 use crate::programs::UnderTest;
 use crate::proofread::plan_fault;
-use crate::shrink::{both_texts, Shrinker};
+use crate::shrink::{both_texts, both_totals, Shrinker};
 use crate::slips::{
-    Slip, ALL, OF_CUTS, OF_NARROWING, OF_RETURNED, OF_SIZES, OF_STARTS, OF_TEXTS, OF_TOUCHES,
-    OF_WALLS,
+    Slip, ALL, OF_CUTS, OF_NARROWING, OF_RETURNED, OF_SIZES, OF_STARTS, OF_TEXTS, OF_TOTALS,
+    OF_TOUCHES, OF_WALLS,
 };
 use crate::streams::{make_checks, make_stream, Budget};
 use crate::table::Table;
@@ -18,7 +19,7 @@ use crate::texts::{damaged_text, job_of, text_of};
 use floors::Chance;
 use reference::drawing::draw;
 use reference::job::Job;
-use reference::{cuts, Board, Refusal};
+use reference::{cuts, totals, Board, Refusal};
 use std::ops::Range;
 
 /// The first stream in which the planner under test differs.
@@ -148,6 +149,118 @@ fn a_twentieth_of_the_plans_are_good_and_not_ours() {
     let mut table = Table::default();
     make_checks(&mut Chance::new(5), 2_000, &mut table);
     assert!(table.good_elsewhere >= 100, "only {}", table.good_elsewhere);
+}
+
+/// As many batches as the gate has.
+const BATCHES: usize = 60;
+
+/// The first batch of wrapped jobs whose totals the planner under test tells otherwise.
+fn first_unlike_batch(under_test: &UnderTest) -> Option<Batch> {
+    let mut chance = Chance::new(11);
+    let mut batches = (0..BATCHES).map(|round| batch_of(&mut chance, round));
+    batches.find(|batch| {
+        let stream = batch.pieces.concat();
+        under_test.totals(&stream) != totals::text(&stream)
+    })
+}
+
+#[test]
+fn a_slip_of_totals_is_found_and_shrunk() {
+    for slip in OF_TOTALS {
+        let under_test = UnderTest::Slipped(slip);
+        let batch =
+            first_unlike_batch(&under_test).unwrap_or_else(|| panic!("{slip:?} is not found"));
+        let small = Shrinker::shrink_batch(&under_test, batch.pieces);
+        let (expected, found) = both_totals(&under_test, &small);
+        assert_ne!(expected, found, "{slip:?} lost while shrinking");
+        let most = match slip {
+            Slip::OneJobMore => 201,
+            Slip::OneJobLess => 200,
+            Slip::SixteenBits => 66,
+            _ => 2,
+        };
+        assert!(
+            small.len() <= most,
+            "{slip:?} is left with {} jobs",
+            small.len()
+        );
+    }
+    assert!(first_unlike_batch(&UnderTest::Reference).is_none());
+}
+
+/// A slip in what is loaded shows in the totals, too.
+#[test]
+fn a_slip_of_loading_is_found_in_the_totals() {
+    for slip in [Slip::NoCorner, Slip::OnesAccepted, Slip::AnyHeight] {
+        let found = first_unlike_batch(&UnderTest::Slipped(slip));
+        assert!(found.is_some(), "{slip:?} is not found");
+    }
+}
+
+/// A tally of the batches that go on, of so many.
+fn tally_of(many: usize, goes_on: impl Fn(&Batch, &str) -> bool) -> Tally {
+    let mut chance = Chance::new(5);
+    let mut tally = Tally::default();
+    for round in 0..many {
+        let batch = batch_of(&mut chance, round);
+        let text = totals::text(&batch.pieces.concat());
+        if goes_on(&batch, &text) {
+            tally.count(&batch, &text);
+        }
+    }
+    tally
+}
+
+/// One batch of each sort is enough for every figure; without one of them, or without a refusal, something is lacking, and so it is told.
+#[test]
+fn every_sort_and_every_figure_come_up() {
+    let all = tally_of(SORTS.len(), |_, _| true);
+    assert_eq!(all.never(), Vec::<String>::new());
+    assert!(!all.lacks());
+    let named = |tally: &Tally, name: &str| {
+        assert!(tally.lacks());
+        assert!(tally.never().contains(&name.to_string()), "{name}");
+    };
+    for sort in [Sort::NoJobs, Sort::Longest, Sort::OneTooMany] {
+        let without = tally_of(2 * SORTS.len(), |batch, _| batch.sort != sort);
+        named(&without, &format!("{sort:?}"));
+    }
+    let no_eighteen = |text: &str| text.lines().nth(10).unwrap_or("0") == "0";
+    let without = tally_of(3 * SORTS.len(), |_, text| no_eighteen(text));
+    named(&without, "refused 18");
+    let without = tally_of(3 * SORTS.len(), |_, text| !text.starts_with("refused"));
+    named(&without, "refused 19");
+}
+
+/// A broken batch is refused, and any other told, with as many jobs as it has wrappers.
+#[test]
+fn a_batch_is_refused_where_its_sort_says_so() {
+    let mut chance = Chance::new(5);
+    for round in 0..10 * SORTS.len() {
+        let batch = batch_of(&mut chance, round);
+        let told = totals::totals(&batch.pieces.concat());
+        let broken = match batch.sort {
+            Sort::OneTooMany
+            | Sort::OtherTag
+            | Sort::CutInValue
+            | Sort::CutInHead
+            | Sort::ByteBehind
+            | Sort::TooLong
+            | Sort::Unwrapped => true,
+            // It may happen to be read at places where wrappers stand.
+            Sort::LengthOff => continue,
+            _ => false,
+        };
+        match told {
+            Err(refusal) => assert!(broken && refusal == Refusal(19), "{:?}", batch.sort),
+            Ok(told) => {
+                assert!(!broken, "{:?}", batch.sort);
+                let refused: usize = told.refused.iter().sum();
+                assert_eq!(told.accepted + refused, batch.pieces.len());
+                assert_eq!(told.room_cells + told.frame_cells, told.sheet_cells);
+            }
+        }
+    }
 }
 
 /// Whether some job has another text, or some text another job.

@@ -11,6 +11,7 @@ pub mod elsewhere;
 pub mod fields;
 pub mod job;
 pub mod register;
+pub mod totals;
 pub mod turning;
 pub mod walls;
 
@@ -46,6 +47,7 @@ pub mod refusal {
     pub const NOT_A_PLAN: Refusal = Refusal(16);
     pub const BAD_SIZE: Refusal = Refusal(17);
     pub const SHEET_TOO_LARGE: Refusal = Refusal(18);
+    pub const NOT_A_SEASON: Refusal = Refusal(19);
 }
 
 /// The frame sides; each also is the number of the one kind with which it may appear.

@@ -1,10 +1,10 @@
 //! The zone planner for Rust programs: safe functions over the proved static library. No state is kept between two calls.
 //!
-//! `plan_into`, `walls_into`, `cuts_into`, `turned_into` and `star_into` write to a lent buffer and tell the length, `narrowed_into` how many turns it made:
-//! the front is filled, what lies behind stays as it was, and a refusal leaves every byte. `plan`, `walls`, `cuts`, `turned`, `narrowed` and `star` bring a
-//! buffer that always suffices.
+//! `plan_into`, `walls_into`, `cuts_into`, `turned_into` and `star_into` write to a lent buffer and tell the length, `narrowed_into` how many turns it made,
+//! `totals_into` how many figures: the front is filled, what lies behind stays as it was, and a refusal leaves every byte. `plan`, `walls`, `cuts`, `turned`,
+//! `narrowed`, `star` and `totals` bring a buffer that always suffices.
 
-/// The number of a refusal, 1 to 18; 8 is not used.
+/// The number of a refusal, 1 to 19; 8 is not used.
 #[derive(Clone, Copy, Debug, PartialEq, Eq)]
 pub struct Refusal(pub u8);
 
@@ -86,6 +86,13 @@ mod library {
         ) -> usize;
 
         pub fn tirunoiwa_touch(job: *const u8, job_length: usize, u: usize, v: usize) -> usize;
+
+        pub fn tirunoiwa_totals(
+            jobs: *const u8,
+            jobs_length: usize,
+            figures: *mut u64,
+            figures_length: usize,
+        ) -> usize;
     }
 }
 
@@ -152,6 +159,43 @@ pub fn check(job: &[u8], plan: &[u8]) -> Result<bool, Refusal> {
     Ok(value(answer)? == 1)
 }
 
+/// The refusals that a job can fall to, in the order in which the season's totals count them.
+pub const REFUSALS: [u8; 10] = [1, 2, 3, 4, 5, 6, 7, 9, 17, 18];
+
+/// How many figures the season's totals have: the accepted jobs, those that fell to each refusal, and five sums.
+pub const FIGURES: usize = 1 + REFUSALS.len() + 5;
+
+/// The season's totals: counts of jobs, and sums over the accepted ones alone.
+#[derive(Clone, Copy, Debug, Default, PartialEq, Eq)]
+pub struct Totals {
+    pub accepted: u64,
+    /// How many fell to each refusal, in the order of `REFUSALS`.
+    pub refused: [u64; REFUSALS.len()],
+    pub widths: u64,
+    pub heights: u64,
+    pub room_cells: u64,
+    pub frame_cells: u64,
+    /// Width times height, summed: room cells and frame cells together.
+    pub sheet_cells: u64,
+}
+
+/// The season's totals of up to 200 jobs, each wrapped in a field of tag 9; refused by 19 where a wrapper is broken or there are more. A job that is refused
+/// changes nothing but its own count.
+pub fn totals(jobs: &[u8]) -> Result<Totals, Refusal> {
+    let mut figures = [0; FIGURES];
+    totals_into(jobs, &mut figures)?;
+    let [accepted, counts @ .., widths, heights, room_cells, frame_cells, sheet_cells] = figures;
+    Ok(Totals {
+        accepted,
+        refused: counts,
+        widths,
+        heights,
+        room_cells,
+        frame_cells,
+        sheet_cells,
+    })
+}
+
 /// The plan of a job, written to the front of a lent buffer.
 pub fn plan_into(job: &[u8], out: &mut [u8]) -> Result<usize, Refusal> {
     // SAFETY: both are slices, so the pointers are not null and valid for the lengths; `out` is lent alone, so `job` does not overlap it.
@@ -198,6 +242,22 @@ pub fn star_into(job: &[u8], room: usize, out: &mut [u8]) -> Result<usize, Refus
     // SAFETY: both are slices, so the pointers are not null and valid for the lengths; `out` is lent alone, so `job` does not overlap it.
     let answer = unsafe {
         library::tirunoiwa_star(job.as_ptr(), job.len(), room, out.as_mut_ptr(), out.len())
+    };
+    value(answer)
+}
+
+/// The figures of the season's totals, in the order of `Totals`, written to the front of a lent buffer; refused by 14, after 19, where it has fewer than
+/// `FIGURES` places. How many were written.
+pub fn totals_into(jobs: &[u8], figures: &mut [u64]) -> Result<usize, Refusal> {
+    // SAFETY: both are slices, so the pointers are not null and valid for the lengths; `figures` is lent alone, so `jobs` does not overlap it. The library is for
+    // x86-64 only, where its numbers have 64 bits.
+    let answer = unsafe {
+        library::tirunoiwa_totals(
+            jobs.as_ptr(),
+            jobs.len(),
+            figures.as_mut_ptr(),
+            figures.len(),
+        )
     };
     value(answer)
 }

@@ -1,8 +1,9 @@
 //! Calls each function of the static library from Rust. Every byte of a lent buffer is looked at, behind what was written too.
 
-use tirunoiwa::{check, cuts, narrowed, plan, star, touch, turned, walls, Narrowed};
-use tirunoiwa::{cuts_into, narrowed_into, plan_into, star_into, turned_into, walls_into};
-use tirunoiwa::{Refusal, Touch, CUTS_MOST, JOB_MOST, PLAN_MOST, WALLS_MOST};
+use tirunoiwa::{check, cuts, narrowed, plan, star, totals, touch, turned, walls, Narrowed};
+use tirunoiwa::{cuts_into, narrowed_into, plan_into, star_into, totals_into, turned_into};
+use tirunoiwa::{walls_into, Refusal, Totals, Touch};
+use tirunoiwa::{CUTS_MOST, FIGURES, JOB_MOST, PLAN_MOST, REFUSALS, WALLS_MOST};
 
 const MOST: usize = 1100;
 
@@ -304,6 +305,92 @@ fn plans_drawn_elsewhere_are_judged() {
     assert_eq!(check(F, &[]), Err(Refusal(16)));
     assert_eq!(check(P3, F_PLAN), Err(Refusal(1)));
     assert_eq!(check(P10, F_PLAN), Ok(false));
+}
+
+/// A job for each of `REFUSALS`.
+const BAD: [&[u8]; REFUSALS.len()] = [
+    include_bytes!("../../../examples/refused-1.job"),
+    include_bytes!("../../../examples/refused-2.job"),
+    include_bytes!("../../../examples/refused-3.job"),
+    include_bytes!("../../../examples/refused-4.job"),
+    include_bytes!("../../../examples/refused-5.job"),
+    include_bytes!("../../../examples/refused-6.job"),
+    include_bytes!("../../../examples/refused-7.job"),
+    include_bytes!("../../../examples/refused-9.job"),
+    include_bytes!("../../../examples/refused-17.job"),
+    include_bytes!("../../../examples/refused-18.job"),
+];
+
+/// Jobs, each in its wrapper.
+fn wrapped(jobs: &[&[u8]]) -> Vec<u8> {
+    let wrap = |job: &&[u8]| [&[9][..], &(job.len() as u16).to_be_bytes(), job].concat();
+    jobs.iter().flat_map(wrap).collect()
+}
+
+/// F is 4 by 5 with 6 cells of rooms, F turned 5 by 4 with 6, and F with sizes 7 by 8 with 30; P2, no bytes and P10 fall to 2, 1 and 9.
+fn season() -> (Vec<u8>, Totals) {
+    let told = Totals {
+        accepted: 4,
+        refused: [1, 2, 0, 0, 0, 0, 0, 1, 0, 0],
+        widths: 4 + 5 + 7 + 4,
+        heights: 5 + 4 + 8 + 5,
+        room_cells: 6 + 6 + 30 + 6,
+        frame_cells: 14 + 14 + 26 + 14,
+        sheet_cells: 20 + 20 + 56 + 20,
+    };
+    let sized = [F, SIZES].concat();
+    (wrapped(&[F, P2, P9, P10, &sized, P3, F, P2]), told)
+}
+
+#[test]
+fn totals_are_told() {
+    let (jobs, told) = season();
+    assert_eq!(totals(&jobs), Ok(told));
+    assert_eq!(totals(&[]), Ok(Totals::default()));
+    for (place, bad) in BAD.into_iter().enumerate() {
+        let mut one = Totals::default();
+        one.refused[place] = 1;
+        assert_eq!(totals(&wrapped(&[bad])), Ok(one));
+    }
+    assert_eq!(
+        totals(&wrapped(&[P10; 200])).map(|told| told.refused[7]),
+        Ok(200)
+    );
+}
+
+/// The figures stand in the order of the names, and what lies behind them stays.
+#[test]
+fn figures_are_written() {
+    let (jobs, _) = season();
+    let figures = [
+        4, 1, 2, 0, 0, 0, 0, 0, 1, 0, 0, 20, 22, 48, 68, 116, 7, 7, 7,
+    ];
+    let mut lent = [7; FIGURES + 3];
+    assert_eq!(totals_into(&jobs, &mut lent), Ok(FIGURES));
+    assert_eq!(lent, figures);
+    let mut lent = [7; FIGURES];
+    assert_eq!(totals_into(&jobs, &mut lent), Ok(FIGURES));
+    assert_eq!(lent, figures[..FIGURES]);
+}
+
+#[test]
+fn totals_are_refused() {
+    let (jobs, _) = season();
+    let refused = |jobs: &[u8], places: usize, number: u8| {
+        let mut lent = [7; FIGURES];
+        assert_eq!(totals_into(jobs, &mut lent[..places]), Err(Refusal(number)));
+        assert_eq!(lent, [7; FIGURES]);
+    };
+    let too_many = wrapped(&[F; 201]);
+    let longer = [&jobs[..], &[9]].concat();
+    for broken in [&too_many, &longer, F, &jobs[..jobs.len() - 1]] {
+        refused(broken, FIGURES, 19);
+        refused(broken, 0, 19);
+        assert_eq!(totals(broken), Err(Refusal(19)));
+    }
+    refused(&jobs, FIGURES - 1, 14);
+    refused(&jobs, 0, 14);
+    refused(&[], FIGURES - 1, 14);
 }
 
 /// F turned is narrowed by one turn, and is F again; F is as narrow as it gets. With sizes, F turned is the narrower one, and stays.

@@ -1,0 +1,4 @@
+pub mod Counted
+pub mod Heads
+pub mod Known
+pub mod Summed
