@@ -1,6 +1,7 @@
 // Does one thing to a job many times over, so that it can be timed, and prints the sum of what came of it.
 // On standard input: n to number its walls, l to load it, t to turn a contact of it, s to make it narrower, q to ask of it; 0 to 9, the rounds as a power of ten;
 // the contact's two rooms, a byte each; then the job.
+#![tactic(auto)]
 use board::{Board, Reply};
 use drawing::Touch;
 use jobs::Answer;

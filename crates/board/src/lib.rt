@@ -1,4 +1,5 @@
 // The board: load, questions, writing. It goes in by value and comes back from each call.
+#![tactic(auto)]
 ghost use Rattle.std.specs.Prelude.{◌≡◌, []};
 ghost use Rattle.floor.specs.Calls.{load, loads, turns, narrows, rectangle, touches, writes_job, writes_plan, writes_register, slices, writes_cuts};
 ghost use Rattle.drawing.specs.declared.Answer.TheVariants.{Refused};
@@ -16,7 +17,7 @@ mod questions; // questions.rt: what the questions and writings ask
 mod rounds; // rounds.rt: the rounds of a narrowing
 
 // What is held: a job, turns included, as its stars and its least sizes, its plan, and the register of the plan's walls.
-#[derive(Drop)]
+#[derive(Clone, Copy)]
 pub struct Board {
     pub stars: Stars,
     pub sizes: Sizes,
@@ -25,14 +26,14 @@ pub struct Board {
 }
 
 // A job planned: the answer of tests 1 to 6, 17, 7, 18 and 9, and the board of it, none where it is refused.
-#[derive(Drop)]
+#[derive(Clone, Copy)]
 pub struct Planned {
     pub answer: drawing::Answer,
     pub board: Board,
 }
 
 // What is held while a floor is narrowed: the stars and their plan, and the turns made.
-#[derive(Drop)]
+#[derive(Clone, Copy)]
 pub struct Slim {
     pub stars: Stars,
     pub plan: Plan,
@@ -40,7 +41,7 @@ pub struct Slim {
 }
 
 // What a call answers; a refusal is its number only.
-#[derive(Drop)]
+#[derive(Clone, Copy)]
 pub enum Reply {
     Refused(u8),
     Done,
@@ -52,7 +53,7 @@ pub enum Reply {
 }
 
 // What comes back from a call: the board and the answer.
-#[derive(Drop)]
+#[derive(Clone, Copy)]
 pub struct Step {
     pub board: Board,
     pub reply: Reply,

@@ -1,5 +1,6 @@
 // Each call of a board by itself, exported, so that the stack it takes can be read off the built code. A board goes in by value and comes back, as it does
 // between Rattle's own functions.
+#![tactic(auto)]
 use board::{Board, Reply, Step};
 use drawing::{Plan, Touch};
 use registers::Register;
@@ -7,7 +8,7 @@ use stars::{Sizes, Stars};
 
 // A board in C's layout.
 #[repr(C)]
-#[derive(Drop)]
+#[derive(Clone, Copy)]
 pub struct Held {
     count: u8,
     ends: [u16; 60],
@@ -26,7 +27,7 @@ pub struct Held {
 
 // What comes back from a call: the board, and the answer as one number.
 #[repr(C)]
-#[derive(Drop)]
+#[derive(Clone, Copy)]
 pub struct Told {
     held: Held,
     answer: usize,

@@ -1,4 +1,5 @@
 // Boards made by hand: every call answers of what stands in them, by one total definition, and stops at none.
+#![tactic(auto)]
 use board::{Board, Reply};
 use drawing::Touch;
 

@@ -1,4 +1,5 @@
 // Reads calls from standard input, a field each, makes them on one board, and prints a line an answer.
+#![tactic(auto)]
 use board::{Board, Reply, Step};
 use drawing::{Plan, Rect, Touch};
 use elsewhere::Verdict;
@@ -31,7 +32,7 @@ const NARROW: u8 = 42;
 const CHECK: u8 = 43;
 
 // What stands after a field: the board, and whether another field may follow.
-#[derive(Drop)]
+#[derive(Clone, Copy)]
 struct Session {
     board: Board,
     going: bool,

@@ -1,4 +1,5 @@
 // Which floors can be cut straight: the tree of cuts of a plan, written; no recursion, a stack of rectangles that wait.
+#![tactic(auto)]
 ghost use Rattle.std.specs.Prelude.{◌≡◌, ◌+◌, ◌-◌, ◌≤◌, ◌<◌, min, length, take, replicate};
 ghost use Rattle.std.proofs.lemmas.List.Edits.{sets};
 ghost use Rattle.floor.specs.Cuts.{is_tree, rooms_of, inner};
@@ -17,7 +18,7 @@ mod look; // look.rt: what is to be done with a rectangle
 mod run; // run.rt: the tree's bytes, rectangle by rectangle
 
 // What is to be done with a rectangle.
-#[derive(Drop)]
+#[derive(Clone, Copy)]
 pub enum Task {
     Stuck,
     Leaf(usize),
@@ -26,14 +27,14 @@ pub enum Task {
 }
 
 // Whether there is a tree, and how many bytes it has.
-#[derive(Drop)]
+#[derive(Clone, Copy)]
 pub enum Sliced {
     No,
     Yes(usize),
 }
 
 // What the writing answers.
-#[derive(Drop)]
+#[derive(Clone, Copy)]
 pub enum Written {
     Wrote(usize),
     TooShort,
@@ -41,7 +42,7 @@ pub enum Written {
 }
 
 // What a task puts, a field of so many bytes and its numbers, and how many rectangles then wait, the low one on top.
-#[derive(Drop)]
+#[derive(Clone, Copy)]
 pub struct Act {
     pub bytes: usize,
     pub first: u16,

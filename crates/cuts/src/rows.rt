@@ -6,7 +6,7 @@ ghost use Rattle.cuts.specs.Orders.{Rise, Arranged, Passed, Over, Halved};
 use crate::order::{key_at, key_of};
 
 // Some places in a row: the first of them, and the one behind the last.
-#[derive(Drop)]
+#[derive(Clone, Copy)]
 pub struct Range {
     pub low: usize,
     pub high: usize,

@@ -1,4 +1,5 @@
 // Reads a job from standard input and prints every contact of two rooms, or the number of the refusal, or that the input is too long.
+#![tactic(auto)]
 
 fn main() {
     let mut input = [0u8; 8193];

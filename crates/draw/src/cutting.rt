@@ -6,7 +6,7 @@ use crate::stretches::Stretch;
 use crate::{pen, place, stretches};
 
 // A part of the floor, by the lines that it spans.
-#[derive(Drop)]
+#[derive(Clone, Copy)]
 struct Part {
     x1: u16,
     y1: u16,
@@ -15,7 +15,7 @@ struct Part {
 }
 
 // What a field of the tree does with the part on top: how many bytes it has, how many cuts it is, where it cuts, and the two parts that are then left.
-#[derive(Drop)]
+#[derive(Clone, Copy)]
 struct Step {
     bytes: usize,
     cuts: usize,

@@ -1,5 +1,6 @@
 // Reads a job from standard input and draws its plan as a picture (SVG); where there is no plan, prints what the listing says. In front of the job the
 // name of its file may stand, and that its cuts are to be numbered; 15 is then said of a floor that no straight cuts take apart.
+#![tactic(auto)]
 use drawing::Plan;
 use place::Sheet;
 use rooms::Layer;

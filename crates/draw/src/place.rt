@@ -3,7 +3,7 @@
 ghost use Rattle.std.specs.Prelude.{◌≤◌, ◌<◌};
 
 // How many cells a sheet has across, from west to east, and up, from south to north; and whether its rooms have least sizes, of which a line is said below.
-#[derive(Drop)]
+#[derive(Clone, Copy)]
 pub struct Sheet {
     pub width: u16,
     pub height: u16,
@@ -11,7 +11,7 @@ pub struct Sheet {
 }
 
 // The two axes of the sheet: x across it, and y up it.
-#[derive(Drop)]
+#[derive(Clone, Copy)]
 pub enum Axis {
     Across,
     Up,

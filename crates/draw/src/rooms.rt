@@ -6,7 +6,7 @@ use crate::{names, pen, place};
 use drawing::{Plan, Rect};
 
 // What is painted of all rectangles before the next: their grounds, or their walls and numbers.
-#[derive(Drop)]
+#[derive(Clone, Copy)]
 pub enum Layer {
     Ground,
     Outline,

@@ -5,7 +5,7 @@ use crate::place::{Axis, Sheet};
 use crate::{pen, place};
 
 // A stretch of a line: the axis along which it runs, the line, and where it begins and ends.
-#[derive(Drop)]
+#[derive(Clone, Copy)]
 pub struct Stretch {
     pub along: Axis,
     pub line: u16,

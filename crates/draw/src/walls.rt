@@ -6,7 +6,7 @@ use crate::stretches::Stretch;
 use crate::{pen, stretches};
 
 // A wall: where it runs, its place among those of its direction, and the room sides on it.
-#[derive(Drop)]
+#[derive(Clone, Copy)]
 struct Wall {
     stretch: Stretch,
     nth: usize,

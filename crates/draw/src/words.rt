@@ -3,7 +3,7 @@ use crate::place::Sheet;
 use crate::{mark, name, pen, place};
 
 // What the marks on the lines of the floor are: the walls of the joiner's list, or the cuts in their order.
-#[derive(Drop)]
+#[derive(Clone, Copy)]
 pub enum Marked {
     Walls,
     Cuts,

@@ -1,4 +1,5 @@
 // Plans: rectangles by wall numbers, the drawing test, tests 7, 18 and 9 of held stars with their least sizes, and a plan's bytes.
+#![tactic(auto)]
 ghost use Rattle.std.specs.Prelude.{◌≡◌, ◌&&◌, ◌+◌, ◌<◌, leb, get_or, replicate};
 ghost use Rattle.floor.specs.Jobs.{sized_job};
 ghost use Rattle.floor.specs.Plans.{nowhere, drawable, write_plan};
@@ -21,7 +22,7 @@ mod place; // place.rt: the rectangles by wall numbers
 mod put; // put.rt: a plan, written
 
 // A vertex and the cells it spans.
-#[derive(Drop)]
+#[derive(Clone, Copy)]
 pub struct Rect {
     pub vertex: usize,
     pub x1: u16,
@@ -31,14 +32,14 @@ pub struct Rect {
 }
 
 // How one rectangle touches another: no wall between them, or the side on which the second stands, seen from the first, and the length of wall they share.
-#[derive(Drop)]
+#[derive(Clone, Copy)]
 pub enum Touch {
     Clear,
     Wall(u8, u16),
 }
 
 // A sheet and its rectangles, in vertex order: x1, y1, x2, y2 of each.
-#[derive(Drop)]
+#[derive(Clone, Copy)]
 pub struct Plan {
     pub rooms: u8,
     pub width: u16,
@@ -47,14 +48,14 @@ pub struct Plan {
 }
 
 // What tests 7, 18 and 9 answer: the job is drawn, or the number of the first that fails.
-#[derive(Drop)]
+#[derive(Clone, Copy)]
 pub enum Answer {
     Drawn,
     Refused(u8),
 }
 
 // A job, drawn: the answer, and the plan, none where it is refused.
-#[derive(Drop)]
+#[derive(Clone, Copy)]
 pub struct Drawing {
     pub answer: Answer,
     pub plan: Plan,

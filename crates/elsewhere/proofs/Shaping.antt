@@ -15,7 +15,7 @@ use Rattle.floor.specs.Plans.{Rect}
 use Rattle.floor.specs.Foreign.{rect_from, rect_then, read_rects, on_sheet, plan_first, read_plan}
 use Rattle.fields.specs.declared.Found.{Found}
 use Rattle.fields.specs.declared.Found.TheVariants.{Broken, Whole}
-use Rattle.fields.specs.Found.{found, stands}
+use Rattle.fields.specs.Found.{found, Stands}
 use Rattle.fields.proofs.Laws.{no_field, the_field, within}
 use Rattle.elsewhere.specs.Placed.{place_of, rect_at, rects_at, plan_at}
 use Rattle.elsewhere.specs.Shapes.{has_shape, rect_shaped, rects_shaped, plan_shaped}
@@ -34,7 +34,7 @@ module _ (s : List ℕ) (at : ℕ) (f : Found) (t n : ℕ) where
     shape_tag h = rw (the_field s at f x a e w q, ne_eqb x t h)
 
     -- one of this tag has this shape exactly if it has this length
-    pub shape_length : stands f at (length s) → x ≡ t → eqb (e - a) n ≡ has_shape t n (read_field (drop at s))
+    pub shape_length : Stands f at (length s) → x ≡ t → eqb (e - a) n ≡ has_shape t n (read_field (drop at s))
     unfolding has_shape
     shape_length p h =
         let l : length (take (e - a) (drop a s)) ≡ e - a = length-take-le (e - a) (drop a s) (simp length-drop (omega (arith, within s at f x a e w p))) in

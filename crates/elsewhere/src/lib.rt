@@ -1,4 +1,5 @@
 // Plans drawn elsewhere: whether a plan's bytes are those of a plan that is good for a job, in time by the job's rooms and pairs.
+#![tactic(auto)]
 ghost use Rattle.std.specs.Prelude.{◌≡◌};
 ghost use Rattle.floor.specs.Jobs.{sized_job};
 ghost use Rattle.floor.specs.Foreign.{read_plan, good_for, judge_plan, judged};
@@ -18,7 +19,7 @@ mod rooms; // rooms.rt: what is asked of each room, and the rooms in the corner 
 pub mod text; // text.rt: what is printed of an answer
 
 // What is answered: a refusal's number, or yes or no.
-#[derive(Drop)]
+#[derive(Clone, Copy)]
 pub enum Verdict {
     Refused(u8),
     Says(bool),

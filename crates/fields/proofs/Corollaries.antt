@@ -10,7 +10,7 @@ use Rattle.floor.specs.Calls.{Reply}
 use Rattle.fields.specs.declared.Found.{Found}
 use Rattle.fields.specs.declared.Found.TheVariants.{Broken, Whole}
 use Rattle.fields.specs.declared.reader.Reader.{Reader}
-use Rattle.fields.specs.Found.{found, stands}
+use Rattle.fields.specs.Found.{found, Stands}
 use Rattle.fields.specs.declared.Written.{Written}
 use Rattle.fields.specs.declared.Written.TheVariants.{Wrote, TooShort}
 use Rattle.fields.specs.Writes.{replied, writing}
@@ -20,9 +20,9 @@ rest_length : (s : List ℕ) (e e' : ℕ) → e ≤ length s → e' ≤ length s
 rest_length s e e' h h' q = omega (arith, simp length-drop at (ap (λ (l : List ℕ). length l) q))
 
 -- the promise of `read_at`, which is that of `next` too, allows one answer
-pub one_field : (s : List ℕ) (at : ℕ) (f g : Found) → found f s ≡ read_field (drop at s) → stands f at (length s)
-    → found g s ≡ read_field (drop at s) → stands g at (length s) → f ≡ g
-unfolding found stands
+pub one_field : (s : List ℕ) (at : ℕ) (f g : Found) → found f s ≡ read_field (drop at s) → Stands f at (length s)
+    → found g s ≡ read_field (drop at s) → Stands g at (length s) → f ≡ g
+unfolding found Stands
 one_field s at Broken Broken p a q b = refl
 one_field s at Broken (Whole t x y) p a q b = absurd (let z : ◌≡◌ {A = ℕ} 0 1 = cc in omega arith)
 one_field s at (Whole t x y) Broken p a q b = absurd (let z : ◌≡◌ {A = ℕ} 0 1 = cc in omega arith)

@@ -11,7 +11,7 @@ use lib.Seq.{drop-cons, drop-drop, drop-length}
 use Rattle.floor.specs.Fields.{broken, field, read_field, value_of, rest_of}
 use Rattle.fields.specs.declared.Found.{Found}
 use Rattle.fields.specs.declared.Found.TheVariants.{Broken, Whole}
-use Rattle.fields.specs.Found.{found, stands, with_head}
+use Rattle.fields.specs.Found.{found, Stands, with_head}
 
 -- less than three bytes are no whole field
 read_short : (l : List ℕ) → length l < 3 → broken ≡ read_field l
@@ -22,8 +22,8 @@ read_short (t ∷ x ∷ []) h = refl
 read_short (t ∷ x ∷ y ∷ r) h = absurd (omega arith)
 
 -- no room for a head
-pub field_short : (s : List ℕ) (at : ℕ) → length s < at + 3 → (found Broken s ≡ read_field (drop at s)) × stands Broken at (length s)
-unfolding found stands
+pub field_short : (s : List ℕ) (at : ℕ) → length s < at + 3 → (found Broken s ≡ read_field (drop at s)) × Stands Broken at (length s)
+unfolding found Stands
 field_short s at h = (read_short (drop at s) (simp length-drop (omega arith)), tt)
 
 module _ (s : List ℕ) (at : ℕ) where
@@ -50,16 +50,16 @@ module _ (s : List ℕ) (at : ℕ) where
 
   -- the value runs past the end
   pub field_cut : (n : ℕ) → n ≡ word → at + 3 ≤ length s → length s - (at + 3) < n
-      → (found Broken s ≡ read_field (drop at s)) × stands Broken at (length s)
-  unfolding found stands
+      → (found Broken s ≡ read_field (drop at s)) × Stands Broken at (length s)
+  unfolding found Stands
   field_cut n e h k =
       let l : length (drop (at + 3) s) < word = simp length-drop (omega arith) in
       (sym (read_head h ∙ rw (lt-leb word (length (drop (at + 3) s)) l)), tt)
 
   -- a whole field
   pub field_whole : (n : ℕ) → n ≡ word → at ≤ length s → 3 ≤ length s - at → n ≤ length s - (at + 3)
-      → (found (Whole (get_or s at 0) (at + 3) (at + 3 + n)) s ≡ read_field (drop at s)) × stands (Whole (get_or s at 0) (at + 3) (at + 3 + n)) at (length s)
-  unfolding found stands
+      → (found (Whole (get_or s at 0) (at + 3) (at + 3 + n)) s ≡ read_field (drop at s)) × Stands (Whole (get_or s at 0) (at + 3) (at + 3 + n)) at (length s)
+  unfolding found Stands
   field_whole n e g m k =
       let h : at + 3 ≤ length s = omega arith in
       let l : word ≤ length (drop (at + 3) s) = simp length-drop (omega arith) in
@@ -68,7 +68,7 @@ module _ (s : List ℕ) (at : ℕ) where
 
 -- what is promised of an answer on a place of some bytes; the proofs over the reader carry it as one fact
 abbrev pub tells : Found → List ℕ → ℕ → Type 0
-tells f s at = (found f s ≡ read_field (drop at s)) × stands f at (length s)
+tells f s at = (found f s ≡ read_field (drop at s)) × Stands f at (length s)
 
 -- what an answer tells of a place of some bytes, it tells of the same bytes and place by other names
 pub tells_there : (f : Found) (s t : List ℕ) (a b : ℕ) → s ≡ t → a ≡ b → tells f s a → tells f t b
@@ -88,18 +88,18 @@ module _ (s : List ℕ) (at : ℕ) (f : Found) where
     the_field w q = sym q ∙ rw w
 
     -- the value starts behind the three bytes of the head
-    pub starts : f ≡ Whole t a e → stands f at (length s) → a ≡ at + 3
-    unfolding stands
+    pub starts : f ≡ Whole t a e → Stands f at (length s) → a ≡ at + 3
+    unfolding Stands
     starts w q = (rw w at q).0
 
     -- the value does not end before it starts
-    pub in_order_lem : f ≡ Whole t a e → stands f at (length s) → a ≤ e
-    unfolding stands
+    pub in_order_lem : f ≡ Whole t a e → Stands f at (length s) → a ≤ e
+    unfolding Stands
     in_order_lem w q = (rw w at q).1
 
     -- the value ends within the bytes
-    pub within : f ≡ Whole t a e → stands f at (length s) → e ≤ length s
-    unfolding stands
+    pub within : f ≡ Whole t a e → Stands f at (length s) → e ≤ length s
+    unfolding Stands
     within w q = (rw w at q).2
 
 -- the value and what follows, as the code hands them on
@@ -117,7 +117,7 @@ module _ (s : List ℕ) (at : ℕ) (f : Found) where
     unfolding value_of
     value_whole w q = rw (the_field s at f t a e w q)
 
-    pub after_whole : f ≡ Whole t a e → found f s ≡ read_field (drop at s) → stands f at (length s)
+    pub after_whole : f ≡ Whole t a e → found f s ≡ read_field (drop at s) → Stands f at (length s)
         → e ≡ length s - length (rest_of (read_field (drop at s)))
     unfolding rest_of
     after_whole w q p = rw (the_field s at f t a e w q) (simp length-drop (omega (arith, within s at f t a e w p)))

@@ -11,9 +11,9 @@ found Broken s = broken
 found (Whole t a e) s = field t (take (e - a) (drop a s)) (drop e s)
 
 -- where the value of a field at a place stands in n bytes: behind the three bytes of the head
-unfoldable pub stands : Found → ℕ → ℕ → Type 0
-stands Broken at n = Unit {0}
-stands (Whole t a e) at n = (a ≡ at + 3) × (a ≤ e) × (e ≤ n)
+unfoldable pub Stands : Found → ℕ → ℕ → Type 0
+Stands Broken at n = Unit {0}
+Stands (Whole t a e) at n = (a ≡ at + 3) × (a ≤ e) × (e ≤ n)
 
 -- some bytes with a field's head put at a place; the same bytes where it does not fit
 unfoldable pub with_head : List ℕ → ℕ → ℕ → ℕ → List ℕ

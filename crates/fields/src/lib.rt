@@ -1,20 +1,21 @@
 // Fields: one tag byte, a two-byte length (high byte first), then the value, read and written at any place of some bytes.
+#![tactic(auto)]
 ghost use Rattle.std.specs.Prelude.{◌≡◌, ◌+◌, ◌*◌, ◌-◌, ◌<◌, length, get_or, drop};
 ghost use Rattle.floor.specs.Lists.{same_numbers};
 ghost use Rattle.floor.specs.Fields.{read_field, value_of, rest_of};
-ghost use Rattle.fields.specs.Found.{found, stands, with_head};
+ghost use Rattle.fields.specs.Found.{found, Stands, with_head};
 
 pub mod reader; // reader.rt: the reader of a job's fields
 
 // What stands at a place: no whole field, or a tag, and where its value starts and ends.
-#[derive(Drop)]
+#[derive(Clone, Copy)]
 pub enum Found {
     Broken,
     Whole(u8, usize, usize),
 }
 
 // What writing to a lent buffer answers: the length that was written, or that the buffer is too short.
-#[derive(Drop)]
+#[derive(Clone, Copy)]
 pub enum Written {
     Wrote(usize),
     TooShort,
@@ -68,7 +69,7 @@ fn word_at(s: &[u8], at: usize) -> usize
 
 // The field at a place of the bytes: the work behind the reader.
 fn field_at(s: &[u8], at: usize) -> Found
-    ensures { (found result s.now ≡ read_field (drop at s.now)) × stands result at (length s.now) }
+    ensures { (found result s.now ≡ read_field (drop at s.now)) × Stands result at (length s.now) }
 {
     if s.len() < at {
         return Found::Broken;

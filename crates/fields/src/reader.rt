@@ -2,12 +2,12 @@
 // `next` and `read_at` are proved by hand; the work is `field_at`'s, and what calls `read_at` is covered.
 ghost use Rattle.std.specs.Prelude.{◌≡◌, length, drop};
 ghost use Rattle.floor.specs.Fields.{read_field};
-ghost use Rattle.fields.specs.Found.{found, stands};
+ghost use Rattle.fields.specs.Found.{found, Stands};
 
 use crate::Found;
 
 // The bytes of a job and a place in them.
-#[derive(Drop)]
+#[derive(Clone, Copy)]
 pub struct Reader<'a> {
     pub bytes: &'a [u8],
     pub place: usize,
@@ -22,14 +22,14 @@ pub fn start<'a>(bytes: &'a [u8], place: usize) -> Reader<'a>
 
 // The field at the reader's place.
 pub fn next<'a>(r: Reader<'a>) -> Found
-    ensures { (found result r.entry.bytes.now ≡ read_field (drop r.entry.place r.entry.bytes.now)) × stands result r.entry.place (length r.entry.bytes.now) }
+    ensures { (found result r.entry.bytes.now ≡ read_field (drop r.entry.place r.entry.bytes.now)) × Stands result r.entry.place (length r.entry.bytes.now) }
 {
     crate::field_at(r.bytes, r.place)
 }
 
 // The field at a place of some bytes, by a reader.
 pub fn read_at(s: &[u8], at: usize) -> Found
-    ensures { (found result s.now ≡ read_field (drop at s.now)) × stands result at (length s.now) }
+    ensures { (found result s.now ≡ read_field (drop at s.now)) × Stands result at (length s.now) }
 {
     next(start(s, at))
 }

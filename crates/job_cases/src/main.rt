@@ -1,4 +1,5 @@
 // The numbers of tests 1 to 6 and 17 on examples and at the limits, the star question, and jobs written back.
+#![tactic(auto)]
 use fields::Written;
 use jobs::Answer;
 

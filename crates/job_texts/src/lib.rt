@@ -1,4 +1,5 @@
 // A job as text that staff write by hand: made of a job's bytes, and read back into them.
+#![tactic(auto)]
 ghost use Rattle.std.specs.Prelude.{◌≡◌, ◌≤◌, length};
 ghost use Rattle.std.proofs.lemmas.List.Edits.{sets};
 ghost use Rattle.floor.specs.Jobs.{sized_job, write_sized};
@@ -21,7 +22,7 @@ mod whole; // whole.rt: a text, read line by line
 mod wrong; // wrong.rt: a wrong line, told in words
 
 // What should have stood on a line that is wrong.
-#[derive(Drop)]
+#[derive(Clone, Copy)]
 pub enum Lack {
     RoomNumber(usize),
     Colon,
@@ -34,28 +35,28 @@ pub enum Lack {
 }
 
 // Whether a line, or a text, is right.
-#[derive(Drop)]
+#[derive(Clone, Copy)]
 pub enum Verdict {
     Right,
     Wrong(Lack),
 }
 
 // What stands where a contact should: what is lacking, or the kind, the neighbour, and the place of the next thing.
-#[derive(Drop)]
+#[derive(Clone, Copy)]
 pub enum Contact {
     Lacks(Lack),
     Stands(u8, u16, usize),
 }
 
 // What stands where a least size should: none, or a width and a height.
-#[derive(Drop)]
+#[derive(Clone, Copy)]
 pub enum Measure {
     Unsaid,
     Said(u8, u8),
 }
 
 // What came of a line's contacts: whether they are right, the place behind the entries, the stars with them, and the least width and height.
-#[derive(Drop)]
+#[derive(Clone, Copy)]
 pub struct Row {
     pub verdict: Verdict,
     pub next: usize,
@@ -65,14 +66,14 @@ pub struct Row {
 }
 
 // The rooms of the lines so far: their stars, and a width and a height for each.
-#[derive(Drop)]
+#[derive(Clone, Copy)]
 pub struct Rooms {
     pub stars: Stars,
     pub list: [u8; 120],
 }
 
 // What came of a line: whether it is right, the place behind its entries, and the rooms with it.
-#[derive(Drop)]
+#[derive(Clone, Copy)]
 pub struct Lined {
     pub verdict: Verdict,
     pub next: usize,
@@ -80,7 +81,7 @@ pub struct Lined {
 }
 
 // What came of all the lines of a text: whether they are right, the number of the wrong one, and the rooms.
-#[derive(Drop)]
+#[derive(Clone, Copy)]
 pub struct Gathered {
     pub verdict: Verdict,
     pub line: usize,
@@ -88,7 +89,7 @@ pub struct Gathered {
 }
 
 // What came of a text: whether it is right, the number of the wrong line, the rooms, and of how many of them the sizes are told, all or none.
-#[derive(Drop)]
+#[derive(Clone, Copy)]
 pub struct Taken {
     pub verdict: Verdict,
     pub line: usize,

@@ -1,4 +1,5 @@
 // Reads a job from standard input and writes the bytes of its plan; or the number of the refusal, or that the input is too long.
+#![tactic(auto)]
 
 // What is written for a job.
 fn answer(input: &[u8]) {

@@ -19,7 +19,7 @@ use Rattle.floor.specs.Jobs.Written.{Counts}
 use Rattle.floor.proofs.Jobs.Written.{sizes_length}
 use Rattle.fields.specs.declared.Found.{Found}
 use Rattle.fields.specs.declared.Found.TheVariants.{Broken, Whole}
-use Rattle.fields.specs.Found.{found, stands}
+use Rattle.fields.specs.Found.{found, Stands}
 use Rattle.fields.proofs.Laws.{no_field, the_field, starts, in_order_lem, within}
 use Rattle.jobs.proofs.Walks.{place_here}
 use Rattle.jobs.specs.declared.Count.{Count}
@@ -51,7 +51,7 @@ star_good p t v r (some j) h =
     rw (h, e)
 
 -- no more pairs than bytes so far
-pub pairs_fit : (s : List ℕ) (at p : ℕ) (f : Found) (t a e : ℕ) → f ≡ Whole t a e → stands f at (length s) → p ≤ at → p + (e - a) / 2 ≤ e
+pub pairs_fit : (s : List ℕ) (at p : ℕ) (f : Found) (t a e : ℕ) → f ≡ Whole t a e → Stands f at (length s) → p ≤ at → p + (e - a) / 2 ≤ e
 pairs_fit s at p f t a e here k h = omega (arith, starts s at f t a e here k, in_order_lem s at f t a e here k)
 
 module _ (s : List ℕ) (n i at p : ℕ) (w : Option ℕ) where
@@ -69,7 +69,7 @@ module _ (s : List ℕ) (n i at p : ℕ) (w : Option ℕ) where
     unfolding pairs_past star_then counted
     count_broken b e h inv = rw (no_field s at f b e) at (next h inv)
 
-    module _ (t a e : ℕ) (here : f ≡ Whole t a e) (q : found f s ≡ read_field (drop at s)) (k : stands f at (length s)) (h : i < n)
+    module _ (t a e : ℕ) (here : f ≡ Whole t a e) (q : found f s ≡ read_field (drop at s)) (k : Stands f at (length s)) (h : i < n)
         (inv : pairs_past p (read_stars (n - i) (drop at s)) ≡ w) where
       -- the field's value
       abbrev value : List ℕ
@@ -186,7 +186,7 @@ module _ (s : List ℕ) (at n : ℕ) where
     unfolding sizes_in
     follow_broken b = one_field h ∙ rw (no_field s at f b q)
 
-    module _ (t a e : ℕ) (here : f ≡ Whole t a e) (k : stands f at (length s)) where
+    module _ (t a e : ℕ) (here : f ≡ Whole t a e) (k : Stands f at (length s)) where
       -- the field's value
       abbrev bytes : List ℕ
       bytes = take (e - a) (drop a s)
@@ -262,7 +262,7 @@ module _ (s : List ℕ) (from n : ℕ) (c : Count) (q : counted c ≡ pairs_past
         (rw (← the_rest, z, x), (t, y, few_sizes n (drop e s) (sizes_at (drop e s)) t z))
 
 -- the one byte of the first field lies within the bytes
-pub start_within : (s : List ℕ) (at : ℕ) (f : Found) (t a e : ℕ) → f ≡ Whole t a e → stands f at (length s) → e - a ≡ 1 → a < length s
+pub start_within : (s : List ℕ) (at : ℕ) (f : Found) (t a e : ℕ) → f ≡ Whole t a e → Stands f at (length s) → e - a ≡ 1 → a < length s
 start_within s at f t a e here k l = omega (arith, within s at f t a e here k)
 
 -- the first field, and the number of rooms
@@ -272,7 +272,7 @@ module _ (s : List ℕ) (f : Found) where
   unfolding reading told read_job read_first
   shape_broken e b = (rw (no_field s 0 f b e), tt)
 
-  module _ (q : found f s ≡ read_field (drop 0 s)) (k : stands f 0 (length s)) (t a e : ℕ) (here : f ≡ Whole t a e) where
+  module _ (q : found f s ≡ read_field (drop 0 s)) (k : Stands f 0 (length s)) (t a e : ℕ) (here : f ≡ Whole t a e) where
     -- the value of the first field
     abbrev first : List ℕ
     first = take (e - a) (drop a s)

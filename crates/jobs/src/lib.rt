@@ -1,4 +1,5 @@
 // Jobs from bytes: tests 1 to 3, tests 1 to 6 and 17, the star question, and writing a job back.
+#![tactic(auto)]
 ghost use Rattle.std.specs.Prelude.{◌≡◌};
 ghost use Rattle.floor.specs.Jobs.{sized_job, read_job, raw_star, first_three, first_six, sizes_pass, write_sized};
 ghost use Rattle.jobs.specs.Reads.{Tells};
@@ -16,28 +17,28 @@ mod tests; // tests.rt: tests 3 to 6 and 17 of a job of the right shape
 mod put; // put.rt: the held stars and sizes, written
 
 // How many pairs some stars have: no such stars stand there, or their number and the place behind them.
-#[derive(Drop)]
+#[derive(Clone, Copy)]
 pub enum Count {
     Unshaped,
     Pairs(usize, usize),
 }
 
 // What the bytes of a job are by their shape: refused, or the number of rooms, where the first star's field starts, how many pairs there are, and the place behind the stars.
-#[derive(Drop)]
+#[derive(Clone, Copy)]
 pub enum Shape {
     Fails(u8),
     Rooms(u8, usize, usize, usize),
 }
 
 // What reading a job answers: the tests are passed, or the number of the first that fails.
-#[derive(Drop)]
+#[derive(Clone, Copy)]
 pub enum Answer {
     Passed,
     Refused(u8),
 }
 
 // A job, read: the answer, the stars and the least sizes, none of them where it is refused.
-#[derive(Drop)]
+#[derive(Clone, Copy)]
 pub struct Read {
     pub answer: Answer,
     pub stars: Stars,

@@ -1,5 +1,6 @@
 // A good order in which to run the rules of one direction: one climb through it gives the numbers, or comes to a circle of walls and goes round it.
 // Only the time goes by this order and never the answer, so the functions here say little more than that they are safe and return.
+#![tactic(auto)]
 ghost use Rattle.std.specs.Prelude.{◌≤◌, length};
 
 mod sheet; // sheet.rt: the sheet that the order is worked out on
@@ -10,7 +11,7 @@ mod circle; // circle.rt: a circle among the walls that are left over
 mod visits; // visits.rt: the visits of the walls, in order
 
 // How many numbers were written, two for each visit, and where the visits of a circle of walls start, the last of all: without a circle at their end.
-#[derive(Drop)]
+#[derive(Clone, Copy)]
 pub struct Span {
     pub many: usize,
     pub again: usize,

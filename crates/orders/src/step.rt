@@ -7,7 +7,7 @@ use crate::sheet::{
 use stars::held::{end_of, place_after, start_of, to_at};
 
 // What is done with a step: it is taken, or, between walls left over, noted as a way back.
-#[derive(Drop)]
+#[derive(Clone, Copy)]
 pub enum Deed {
     Take,
     Note,

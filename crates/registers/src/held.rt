@@ -5,7 +5,7 @@ ghost use Rattle.registers.specs.Kept.{wall_in, wall_at};
 use crate::{chains, put};
 
 // A wall: its direction, 0 upright or 1 level, its number, where it begins and ends along its length, and how many room sides lie on it.
-#[derive(Drop)]
+#[derive(Clone, Copy)]
 pub struct Wall {
     pub direction: u8,
     pub number: u16,

@@ -7,7 +7,7 @@ ghost use Rattle.registers.specs.Kept.{row, written};
 ghost use Rattle.registers.specs.Merging.{wall_of};
 
 // A wall that is begun, and how many stand before it.
-#[derive(Drop)]
+#[derive(Clone, Copy)]
 struct Begun {
     pub at: usize,
     pub line: u16,

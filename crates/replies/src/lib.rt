@@ -1,4 +1,5 @@
 // What a program that hands out bytes says: the bytes, the number of a refusal, or that the input is too long.
+#![tactic(auto)]
 
 // The number of a refusal.
 pub fn refuse(k: u8) {

@@ -1,4 +1,5 @@
 // The season's totals: what many jobs, each in a wrapper, come to together.
+#![tactic(auto)]
 ghost use Rattle.std.specs.Prelude.{◌≡◌, ◌≤◌, ◌++◌, length, drop, replicate};
 ghost use Rattle.floor.specs.Calls.{load};
 ghost use Rattle.floor.specs.Totals.{refuses_all, season, season_in};
@@ -41,7 +42,7 @@ pub fn add<'a>(sums: &mut [usize; 16], job: &'a [u8])
 }
 
 // Whether every wrapper could be read, and then the sums of its jobs.
-#[derive(Drop)]
+#[derive(Clone, Copy)]
 struct Sums {
     whole: bool,
     sums: [usize; 16],

@@ -3,7 +3,7 @@ ghost use Rattle.std.specs.Prelude.{◌≡◌};
 ghost use Rattle.season.specs.Heads.{head_in, fits};
 
 // A job of so many bytes, or no head of a wrapper.
-#[derive(Drop)]
+#[derive(Clone, Copy)]
 pub enum Head {
     Job(usize),
     Broken,

@@ -1,4 +1,5 @@
 // What a program says where its input cannot be read or its output cannot be written. A program has no exit status: it says so on standard error.
+#![tactic(auto)]
 
 // Whether a read has failed by now; that is said, and why.
 pub fn unread() -> bool {

@@ -1,4 +1,5 @@
 // Reads the text of a job from standard input and prints the bytes of the job, or the first wrong line, or that the input is too long.
+#![tactic(auto)]
 
 fn main() {
     let mut input = [0u8; 16385];

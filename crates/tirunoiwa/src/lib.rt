@@ -1,4 +1,5 @@
 // The planner for other programs: plain functions over a job's bytes. No board is kept between two calls.
+#![tactic(auto)]
 ghost use Rattle.std.specs.Prelude.{◌≡◌, []};
 ghost use Rattle.floor.specs.Calls.{empty, loads, step};
 ghost use Rattle.floor.specs.Tracker.{plan_of_job, walls_of_job, cuts_of_job, turned_of_job, narrowed_of_job, touch_of_job, star_of_job, code};
@@ -21,7 +22,7 @@ const FIRST_VALUE: usize = 256;
 const TOO_SHORT: usize = 14;
 
 // A job's bytes loaded: the answer as one number, and the board.
-#[derive(Drop)]
+#[derive(Clone, Copy)]
 struct Loaded {
     answer: usize,
     board: Board,
@@ -43,7 +44,7 @@ fn load(job: &[u8]) -> Loaded
 }
 
 // A call that changes the plan on a board: a contact turned, or the floor narrowed.
-#[derive(Drop)]
+#[derive(Clone, Copy)]
 enum Change {
     Turn(usize, usize),
     Narrow,

@@ -1,11 +1,12 @@
 // Reads jobs, each in a wrapper, from standard input, and prints the season's totals: a line for each figure, or the number of the refusal where a wrapper is
 // broken or there are more than 200.
+#![tactic(auto)]
 ghost use Rattle.std.specs.Prelude.{◌<◌};
 
 use season::wrapper::Head;
 
 // What came next: a job, which is added, the end of the input, or anything else.
-#[derive(Drop)]
+#[derive(Clone, Copy)]
 enum Next {
     Added,
     End,

@@ -1,4 +1,5 @@
 // Turning: a contact of the held stars turned where it stands, over slices of them. Two kinds change, and no entry moves.
+#![tactic(auto)]
 ghost use Rattle.std.specs.Prelude.{◌≡◌};
 ghost use Rattle.stars.specs.Held.{job_in};
 ghost use Rattle.turns.specs.InPlace.{swing_said, swing_of, turned_in};
@@ -7,7 +8,7 @@ mod contact; // contact.rt: whether two rooms are in contact, and the lists that
 mod place; // place.rt: which contact turns, and one kind of it set
 
 // Which contact turns: a refusal, or two rooms and the kind with which the first then names the second.
-#[derive(Drop)]
+#[derive(Clone, Copy)]
 pub enum Swing {
     Stops(u8),
     Swings(usize, usize, u8),

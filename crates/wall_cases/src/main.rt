@@ -1,5 +1,6 @@
 // The wall numbers of jobs on standard input, ten fields with a job each: the sheet and, room by room, its four walls, or that the walls run in a
 // circle, and how many upright walls have the number 2; then those of two stars made by hand.
+#![tactic(auto)]
 ghost use Rattle.std.specs.Prelude.{◌<◌};
 
 use jobs::Answer;

@@ -1,4 +1,5 @@
 // The walls of held stars, with their rooms' least sizes, and their numbers: passes over the rules, until every rule is met or a number is too large.
+#![tactic(auto)]
 ghost use Rattle.std.specs.Prelude.{◌≡◌, true, ◌&&◌, ◌+◌, ◌*◌, ◌≤◌, length, get_or, replicate};
 ghost use Rattle.floor.specs.Jobs.{test2};
 ghost use Rattle.floor.specs.Walls.{upright, rules};
@@ -15,7 +16,7 @@ mod vertices; // vertices.rt: whether every neighbour is a vertex of the job
 mod number; // number.rt: the numbers in one direction
 
 // What running some rules did to the numbers: nothing was to do, a number was raised, or one would pass the top.
-#[derive(Drop)]
+#[derive(Clone, Copy)]
 enum Step {
     Kept,
     Raised,
@@ -23,44 +24,44 @@ enum Step {
 }
 
 // The two directions of walls.
-#[derive(Drop)]
+#[derive(Clone, Copy)]
 enum Direction {
     Upright,
     Level,
 }
 
 // The number of an upright wall, F1.
-#[derive(Drop)]
+#[derive(Clone, Copy)]
 pub struct F1(pub u16);
 
 // The number of a level wall, F2.
-#[derive(Drop)]
+#[derive(Clone, Copy)]
 pub struct F2(pub u16);
 
 // The upright numbers of every side, low then high, vertex by vertex.
-#[derive(Drop)]
+#[derive(Clone, Copy)]
 pub struct Uprights(pub [u16; 128]);
 
 // The level numbers of every side.
-#[derive(Drop)]
+#[derive(Clone, Copy)]
 pub struct Levels(pub [u16; 128]);
 
 // The numbers of one direction: whether there are any, and noughts behind them or in their stead.
-#[derive(Drop)]
+#[derive(Clone, Copy)]
 struct Numbers {
     pub found: bool,
     pub list: [u16; 128],
 }
 
 // Whether the walls have their numbers, or run in a circle.
-#[derive(Drop)]
+#[derive(Clone, Copy)]
 pub enum Answer {
     Numbered,
     Circle,
 }
 
 // The walls of a job: the answer, and the numbers, noughts where there are none.
-#[derive(Drop)]
+#[derive(Clone, Copy)]
 pub struct Walls {
     pub answer: Answer,
     pub uprights: Uprights,
@@ -68,7 +69,7 @@ pub struct Walls {
 }
 
 // The numbers of the walls on a vertex's four sides.
-#[derive(Drop)]
+#[derive(Clone, Copy)]
 pub struct Sides {
     pub left: F1,
     pub right: F1,
@@ -77,7 +78,7 @@ pub struct Sides {
 }
 
 // How many cells wide and high a sheet is.
-#[derive(Drop)]
+#[derive(Clone, Copy)]
 pub struct Sheet {
     pub width: usize,
     pub height: usize,

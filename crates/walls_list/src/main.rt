@@ -1,5 +1,6 @@
 // Reads a job from standard input and prints the walls of its plan for the joiner, a line each: direction, number, beginning, end, room sides; or the number
 // of the refusal, or that the input is too long.
+#![tactic(auto)]
 
 fn main() {
     let mut input = [0u8; 8193];

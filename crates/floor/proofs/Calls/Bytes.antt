@@ -22,6 +22,7 @@ use Rattle.floor.proofs.Calls.Sound.{sound_good}
 -- a star of a job has no more entries than the job has pairs
 star_pairs : (j : Job) (s : Star) → Memᴰ s j → length s ≤ pairs_in j
 unfolding pairs_in sum
+star_pairs [] s x' = elim x' [ ]
 star_pairs (r ∷ j) s (Memᴰ.head e) = let q : length s ≡ length r = ap (λ (s : Star). length s) e in omega arith
 star_pairs (r ∷ j) s (Memᴰ.tail i) = omega (arith, star_pairs j s i)
 

@@ -26,6 +26,7 @@ use Rattle.floor.proofs.Calls.Bytes.{limits}
 -- a member is no more than the sum
 mem_sum : {A : Type 0} (f : A → ℕ) (xs : List A) (x : A) → Memᴰ x xs → f x ≤ sum (map f xs)
 unfolding sum
+mem_sum {A = A} f [] x x3 = elim x3 [ ]
 mem_sum f (y ∷ xs) x (Memᴰ.head e) = rw e (omega arith)
 mem_sum f (y ∷ xs) x (Memᴰ.tail m) = omega (arith, mem_sum f xs x m)
 

@@ -44,6 +44,7 @@ onward_on (suc (suc (suc k))) r s t a b = omega arith
 
 -- kinds that never fall, by any two entries
 least_mem : (k : ℕ) (s : Star) → AtLeast k s → (e : Entry) → Memᴰ e s → k ≤ e.kind
+least_mem k [] a e x'' = elim x'' [ ]
 least_mem k (d ∷ s) a e (Memᴰ.head q) = rw q a.0
 least_mem k (d ∷ s) a e (Memᴰ.tail m) = least_mem k s a.1 e m
 
@@ -54,6 +55,7 @@ mem_least k (d ∷ s) h = (h d (Memᴰ.head refl), mem_least k s (λ e m. h e (M
 
 -- where kinds never fall, an entry that stands before another has no higher kind
 rising : (s : Star) → Sorted s → (d e : Entry) → Earlier d e s → d.kind ≤ e.kind
+rising [] o d e x'' = elim x'' [ ]
 rising (x ∷ s) o d e (there r) = rising s o.1 d e r
 rising (x ∷ s) o d e (here m) = least_mem x.kind s o.0 e m
 
@@ -73,6 +75,7 @@ linked p d e h q =
 links_first : (p : Plan) (back : Entry) (s : Star) (d : Entry) → Sorted (d ∷ s) → all (in_order p) (links_to back (d ∷ s)) ≡ true
     → (e : Entry) → Memᴰ e s → d.kind ≡ e.kind → Onward d.kind (rect_of p d.to) (rect_of p e.to)
 unfolding links_to all
+links_first p back [] d o h e x4 same = elim x4 [ ]
 links_first p back (c ∷ s) d o h e (Memᴰ.head q) same = rw q (linked p d c (and_parts _ _ h).0 (same ∙ ap (λ (x : Entry). x.kind) q))
 links_first p back (c ∷ s) d o h e (Memᴰ.tail m) same =
     let (now, later) = and_parts (in_order p (record { this = d; next = c })) _ h in
@@ -83,6 +86,7 @@ links_first p back (c ∷ s) d o h e (Memᴰ.tail m) same =
 -- where kinds never fall and each entry stands in order with the next, each does with every later one of its kind
 links_order : (p : Plan) (back : Entry) (s : Star) → Sorted s → all (in_order p) (links_to back s) ≡ true → InOrder p s
 unfolding links_to all
+links_order p back [] o h d e x4 same = elim x4 [ ]
 links_order p back (c ∷ s) o h d e (here m) same = links_first p back s c o h e m same
 links_order p back (c ∷ s) o h d e (there r) same =
     links_order p back s o.1 (and_parts (in_order p (record { this = c; next = get_or s 0 back })) _ h).1 d e r same

@@ -56,6 +56,7 @@ last_of P E [] z o f = absurd (z refl)
 last_of P E (v ∷ []) z o f = f v (Memᴰ.head refl) place
   where
     place : (t : Piece) → Memᴰ t (v ∷ []) → (t ≡ v) ⊎ E t v
+    place t (Memᴰ.tail x8) = elim x8 [ ]
     place t (Memᴰ.head e) = inl e
 last_of P E (v ∷ w ∷ l) z o f = last_of P E (w ∷ l) (λ e. let z : ◌≡◌ {A = ℕ} 0 1 = cc in omega arith) o.1 (λ a m k. f a (Memᴰ.tail m) (place a m k))
   where

@@ -262,6 +262,7 @@ strict_onward p right a b e = let f : p.height - (rect_of p (number (piece b))).
 pub lists_order : (p : Plan) (s : Star) → ((e : Entry) → Memᴰ e s → e.kind < 4) → ((k : Side) → Ordered (Strict p k) (map piece (list_of s (num k))))
     → (d e : Entry) → Earlier d e s → d.kind ≡ e.kind → Onward d.kind (rect_of p d.to) (rect_of p e.to)
 unfolding list_of keep
+lists_order p [] n o d' e x4 same = elim x4 [ ]
 lists_order p (d ∷ s) n o d' e (there x) same = lists_order p s (λ e m. n e (Memᴰ.tail m)) (λ k. rest k (eqb d.kind (num k)) (o k)) d' e x same
   where
     rest : (k : Side) (b : Bool)

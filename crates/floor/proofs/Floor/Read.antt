@@ -121,6 +121,7 @@ mem_listed v (e ∷ s) n m = go (eqb e.kind n) refl m (mem_listed v s n)
 -- an entry of kind n stands in the star's list of that kind
 pub listed_mem : (s : Star) (n : ℕ) (e : Entry) → Memᴰ e s → e.kind ≡ n → Memᴰ (piece e.to) (map piece (list_of s n))
 unfolding list_of keep
+listed_mem [] n e x'' k = elim x'' [ ]
 listed_mem (d ∷ s) n e (mathlib.Core.List.Memᴰ.head q) k = rw (eq-eqb d.kind n (ap (λ z. z.kind) (sym q) ∙ k)) (mathlib.Core.List.Memᴰ.head (ap (λ z. piece z.to) q))
 listed_mem (d ∷ s) n e (mathlib.Core.List.Memᴰ.tail m) k = go (eqb d.kind n) (listed_mem s n e m k)
   where

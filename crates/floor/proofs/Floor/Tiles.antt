@@ -34,9 +34,9 @@ first_some (v ∷ l) h = (v, Memᴰ.head refl, h)
 
 -- some P on the last entry, whose list then has one
 pub last_some : {P : Piece → Type 0} (l : List Piece) → AtLast P l → (v : Piece) × Memᴰ v l × P v
-last_some [] h = absurd h
-last_some (v ∷ []) h = (v, Memᴰ.head refl, h)
-last_some (v ∷ w ∷ l) h = let (x, m, y) = last_some (w ∷ l) h in (x, Memᴰ.tail m, y)
+last_some {P = P} [] h = absurd h
+last_some {P = P} (v ∷ []) h = (v, Memᴰ.head refl, h)
+last_some {P = P} (v ∷ w ∷ l) h = let (x, m, y) = last_some {P = P} (w ∷ l) h in (x, Memᴰ.tail m, y)
 
 -- a linked list is linked without its first
 pub linked_tail : (R : Piece → Piece → Type 0) (v : Piece) (l : List Piece) → Linked R (v ∷ l) → Linked R l
@@ -58,12 +58,14 @@ module _ (A B : Piece → Type 0) where
 
   -- where none is begun before the one in front is ended, the first is ended as soon as any later one is begun
   pull : (v s : Piece) (l : List Piece) → Linked (λ a b. A b → B a) (v ∷ l) → ((w : Piece) → Memᴰ w l → B w → A w) → Memᴰ s l → A s → B v
+  pull v s [] k g x4 h = elim x4 [ ]
   pull v s (w ∷ l) k g (Memᴰ.head e) h = k.0 (rw e at h)
   pull v s (w ∷ l) k g (Memᴰ.tail m) h = k.0 (g w (Memᴰ.head refl) (pull w s l k.1 (λ x n. g x (Memᴰ.tail n)) m h))
 
   -- where none is begun before the one in front is ended, only one entry is begun and not ended
   only : (l : List Piece) → Linked (λ a b. A b → B a) l → ((w : Piece) → Memᴰ w l → B w → A w) → (r s : Piece) → Memᴰ r l → Memᴰ s l → A r
       → (B r → ⊥) → A s → (B s → ⊥) → r ≡ s
+  only [] k g r s x8 _ ra rb sa sb = elim x8 [ ]
   only (v ∷ l) k g r s (Memᴰ.head e) (Memᴰ.head f) ra rb sa sb = e ∙ sym f
   only (v ∷ l) k g r s (Memᴰ.head e) (Memᴰ.tail n) ra rb sa sb =
       absurd (rb (rw e (pull v s l k (λ w m. g w (Memᴰ.tail m)) n sa)))

@@ -20,6 +20,7 @@ linked_ordered R t [] k = tt
 linked_ordered R t (v ∷ l) k = (λ w m. later v w l k m, linked_ordered R t l (linked_tail R v l k))
   where
     later : (v w : Piece) (l : List Piece) → Linked R (v ∷ l) → Memᴰ w l → R v w
+    later v w [] k x3 = elim x3 [ ]
     later v w (x ∷ l) k (Memᴰ.head e) = rw e k.0
     later v w (x ∷ l) k (Memᴰ.tail m) = t v x w k.0 (later x w l k.1 m)
 

@@ -18,7 +18,7 @@ use Rattle.floor.specs.Calls.{load, Loads}
 use Rattle.floor.specs.Calls.Sound.{Sound}
 use Rattle.floor.proofs.Calls.Sound.{sound_good, sound_roomy, load_held, load_reads}
 use Rattle.floor.proofs.Calls.Elsewhere.{good_plan_loads, good_plan_loads_plain}
-use Rattle.floor.specs.Foreign.{read_plan, refuses, answers, judge_plan, judge_read, judged, GoodFor, RefusedBy}
+use Rattle.floor.specs.Foreign.{good_for, read_plan, refuses, answers, judge_plan, judge_read, judged, GoodFor, RefusedBy}
 use Rattle.floor.proofs.Foreign.Shaped.{read_complete, read_write_plan, shaped_exactly}
 use Rattle.floor.proofs.Foreign.Tested.{good_exactly}
 
@@ -53,6 +53,12 @@ one_refusal : {k l : ℕ} → refuses k ≡ refuses l → k ≡ l
 one_refusal e = cc
 
 module _ (job plan : List ℕ) where
+  -- a plan that is read and passes the test gets a yes
+  told_yes : (o : SizedJob) (p : Plan) → read_sized job ≡ reads o → read_plan (length o.stars) plan ≡ some p → good_for o p ≡ true
+      → judge_read (read_sized job) plan ≡ answers true
+  unfolding judge_read judge_plan
+  told_yes o p x y e = rw (x, y) (ap answers e)
+
   -- YES EXACTLY WHEN ALL HOLD
   pub yes_exactly : (judged job plan ≡ answers true) ↔ GoodFor job plan
   unfolding judged
@@ -71,10 +77,9 @@ module _ (job plan : List ℕ) where
               )
 
       back : GoodFor job plan → judge_read (read_sized job) plan ≡ answers true
-      back g = unfold judge_read judge_plan in (
-          rw (read_passed job g.o g.passed, g.shaped) (ap answers
-          ((good_exactly g.o (passes_read job g.o g.passed) g.p (read_complete g.o.stars plan g.p g.shaped)).1 (g.good, g.roomy)))
-          )
+      back g =
+          told_yes g.o g.p (read_passed job g.o g.passed) g.shaped
+              ((good_exactly g.o (passes_read job g.o g.passed) g.p (read_complete g.o.stars plan g.p g.shaped)).1 (g.good, g.roomy))
 
   -- REFUSED by the job's own 1 to 6 and 17, in their order, and then by 16 where the bytes are not shaped as a plan; else yes or no
   pub refused_exactly : (k : ℕ) → (judged job plan ≡ refuses k) ↔ RefusedBy job plan k

@@ -233,6 +233,7 @@ fair_of s h =
 -- WHAT TEST 17 SAYS of every size told,
 pub sizes_fair : (z : Sizes) → test17 z ≡ true → (s : Size) → Memᴰ s z → Fair s
 unfolding test17
+sizes_fair [] h s m = elim m [ ]
 sizes_fair (r ∷ z) h s m = fair_of s (all_mem size_ok (r ∷ z) (and_left (all size_ok (r ∷ z)) _ h) s m)
 
 -- and of every room's

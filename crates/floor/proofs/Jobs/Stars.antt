@@ -24,6 +24,7 @@ most_up k m (e ∷ s) h a = (omega (arith, a.0), most_up k m s h a.1)
 
 -- where every kind of a star is k or less, so is the kind of each entry
 most_mem : (k : ℕ) (s : Star) → AtMost k s → (e : Entry) → Memᴰ e s → e.kind ≤ k
+most_mem k [] a e x'' = elim x'' [ ]
 most_mem k (d ∷ s) a e (Memᴰ.head q) = rw q a.0
 most_mem k (d ∷ s) a e (Memᴰ.tail m) = most_mem k s a.1 e m
 
@@ -296,6 +297,7 @@ different d e = not (eqb d.to e.to)
 -- where no two entries name one neighbour, each neighbour is named once
 pub once_of : (s : Star) → pairwise different s ≡ true → (e : Entry) → Memᴰ e s → named e.to s ≡ 1
 unfolding pairwise
+once_of [] h e x'' = elim x'' [ ]
 once_of (d ∷ s) h e (Memᴰ.head q) =
     let c : named d.to (d ∷ s) ≡ 1 + named d.to s = rw (eq-eqb d.to d.to refl) at (count_cons (λ (x : Entry). eqb x.to d.to) d s) in
     rw q (omega (arith, none_count (λ (x : Entry). eqb x.to d.to) s (λ x m. other x (all_mem (different d) s (and_left _ _ h) x m))))

@@ -104,6 +104,7 @@ module _ {A : Type 0} where
 
   -- where some member passes, at least one is counted
   pub mem_count : (p : A → Bool) (xs : List A) (x : A) → Memᴰ x xs → p x ≡ true → 1 ≤ count p xs
+  mem_count p [] x x4 e = elim x4 [ ]
   mem_count p (y ∷ xs) x (Memᴰ.head q) e =
       let c : count p (y ∷ xs) ≡ 1 + count p xs = rw (ap p (sym q) ∙ e) at (count_cons p y xs) in
       omega arith
@@ -162,6 +163,7 @@ module _ {A : Type 0} where
   -- where all pass, each member does
   pub all_mem : (p : A → Bool) (xs : List A) → all p xs ≡ true → (x : A) → Memᴰ x xs → p x ≡ true
   unfolding all
+  all_mem p [] e x x4 = elim x4 [ ]
   all_mem p (y ∷ xs) e x (Memᴰ.head q) = rw q (and_left (p y) (all p xs) e)
   all_mem p (y ∷ xs) e x (Memᴰ.tail m) = all_mem p xs (and_right (p y) (all p xs) e) x m
 
@@ -218,6 +220,7 @@ module _ {A : Type 0} where
 
   -- a member stands at some place of the list
   pub get_or_mem : (xs : List A) (x d : A) → Memᴰ x xs → (i : ℕ) × (i < length xs) × (get_or xs i d ≡ x)
+  get_or_mem [] x d x3 = elim x3 [ ]
   get_or_mem (y ∷ xs) x d (Memᴰ.head q) = (0, omega arith, sym q)
   get_or_mem (y ∷ xs) x d (Memᴰ.tail m) = let (i, l, e) = get_or_mem xs x d m in (suc i, omega arith, e)
 
@@ -259,6 +262,7 @@ module _ {A : Type 0} where
   -- a member that passes is kept
   pub mem_keep : (p : A → Bool) (xs : List A) (x : A) → Memᴰ x xs → p x ≡ true → Memᴰ x (keep p xs)
   unfolding keep
+  mem_keep p [] x x4 e = elim x4 [ ]
   mem_keep p (y ∷ xs) x (Memᴰ.head q) e = rw (ap p (sym q) ∙ e) (Memᴰ.head q)
   mem_keep p (y ∷ xs) x (Memᴰ.tail m) e = go (p y) (mem_keep p xs x m e)
     where
@@ -334,6 +338,7 @@ module _ {A : Type 0} where
 
   -- a list can be taken apart at any of its members
   pub apart_at : (x : A) (xs : List A) → Memᴰ x xs → Apart x xs
+  apart_at x [] x'' = elim x'' [ ]
   apart_at x (y ∷ xs) (Memᴰ.head q) = record { front = []; rest = xs; whole = rw q }
   apart_at x (y ∷ xs) (Memᴰ.tail m) =
       let k : Apart x xs = apart_at x xs m in
@@ -356,6 +361,7 @@ module _ {A B : Type 0} (h : A → B) where
 
   -- what the function gives of a member is a member of the list made
   pub mem_map : (xs : List A) (x : A) → Memᴰ x xs → Memᴰ (h x) (map h xs)
+  mem_map [] x x3 = elim x3 [ ]
   mem_map (y ∷ xs) x (Memᴰ.head q) = Memᴰ.head (ap h q)
   mem_map (y ∷ xs) x (Memᴰ.tail m) = Memᴰ.tail (mem_map xs x m)
 

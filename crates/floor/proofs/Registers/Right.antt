@@ -148,6 +148,7 @@ module _ (d : ℕ) (S : List Stretch) (long : ℕ) where
   -- where a wall begins on one of the lines, the wall from there stands in their register
   pub mem_walls : (xs : List ℕ) (x b : ℕ) → Memᴰ x xs → starts S x b ≡ true → b < long → Memᴰ (partition d S long x b) (walls_of d S long xs)
   unfolding walls_of walls_on
+  mem_walls [] x b x5 t l = elim x5 [ ]
   mem_walls (z ∷ xs) x b (Memᴰ.head e) t l =
       rw (← e) (Memᴰ.append_left (walls_of d S long xs) (mem_map (partition d S long x) (keep (starts S x) (up_from 0 long)) b
       (mem_keep (starts S x) (up_from 0 long) b (up_from_mem 0 long b (omega arith) (omega arith)) t)))

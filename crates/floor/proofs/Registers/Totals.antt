@@ -64,6 +64,7 @@ sum_append f (x ∷ xs) ys = omega (arith, sum_append f xs ys)
 pub count_one : {A : Type 0} (r : A → A → Bool) → ((x y : A) → r x y ≡ true → r y x ≡ true → ⊥) → (p : A → Bool) (xs : List A) → pairwise r xs ≡ true
     → (x : A) → Memᴰ x xs → p x ≡ true → ((y : A) → Memᴰ y xs → p y ≡ true → y ≡ x) → count p xs ≡ 1
 unfolding pairwise
+count_one {A = A} r asym p [] o x m e one = elim m [ ]
 count_one r asym p (y ∷ xs) o x m e one = go (p y) refl m (count_one r asym p xs (and_parts (all (r y) xs) (pairwise r xs) o).1 x)
   where
     after : (z : _) → Memᴰ z xs → r y z ≡ true

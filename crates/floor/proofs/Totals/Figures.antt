@@ -137,6 +137,7 @@ one_bad xs b ys k e = record {
 
 -- THE ORDER OF JOBS DOES NOT MATTER
 over_shuffled : (m : Answer → ℕ) (js ks : Jobs) → Shuffled js ks → over m js ≡ over m ks
+over_shuffled m [] (_ ∷ _) x4 = elim x4 [ ]
 over_shuffled m [] [] empty = refl
 over_shuffled m (b ∷ js) ks (put xs ys s e) = rw e (omega (arith, over_cons m b js, over_put m xs b ys, over_shuffled m js (xs ++ ys) s))
 
@@ -231,6 +232,7 @@ all_small =
     (accepts_small, every_append (map fell_to refusals) _ (every_fell refusals) (width_small, (height_small, (rooms_small, (frame_small, (sheet_small, tt))))))
 
 listed_most : (js : Jobs) (l : List (Answer → ℕ)) → Every l → (n : ℕ) → Memᴰ n (map (λ m. over m js) l) → n ≤ length js * 62500
+listed_most js [] h n x'' = elim x'' [ ]
 listed_most js (m ∷ l) h n (Memᴰ.head e) = rw e (over_most m 62500 h.0 js)
 listed_most js (m ∷ l) h n (Memᴰ.tail i) = listed_most js l h.1 n i
 

@@ -219,7 +219,7 @@ module _ (s t : Stars) (g : Lawful s) (g' : Lawful t) (p : Place) (q : Good s p)
     rw e1 (last_map (t.list k a) (λ x m h. inl h) (linked_last _ (room b) (t.list k a) (some true k a b T k) whole)),
   ) (
     rw e1 (linked_cons _ (room b) (s.list (next k) a) first (own_linked true k a b T (next k))),
-    rw (e1, e2) (last_cons _ (room b) (s.list (next k) a) (own_turns true k a b T (next k))),
+    rw e1 (last_cons _ (room b) (s.list (next k) a) (rw (← e2) at (own_turns true k a b T (next k)))),
   )
       (rw e2 (own_linked true k a b T (opp k)), rw (e2, e3) (own_turns true k a b T (opp k))) (
         rw e3 (own_linked true k a b T (prev k)),
@@ -266,7 +266,7 @@ module _ (s t : Stars) (g : Lawful s) (g' : Lawful t) (p : Place) (q : Good s p)
       ) (
         rw (e1, round k) (linked_back _ (room b) (s.list (prev k) a) (rw (round k) at (own_linked false k a b T (prev k))) last),
         rw (e1, round k) (end_last _ (room b) (s.list (prev k) a) (first_map (t.list k a) (λ y m h. inr h)
-            (cons_first _ (room b) (t.list k a) (some false k a b T k) whole))),
+            (cons_first (Contact t (next k)) (room b) (t.list k a) (some false k a b T k) whole))),
       )
     where
       e0 : s.list k a ≡ room b ∷ t.list k a

@@ -43,6 +43,7 @@ opposite_small = each_kind (λ k. opposite k ≤ 3) (omega arith) (omega arith) 
 
 -- who stands before and after an entry of a star
 earlier_front : (P : Star) (d e : Entry) (Q : Star) → Memᴰ d P → Earlier d e (P ++ e ∷ Q)
+earlier_front [] d e Q x' = elim x' [ ]
 earlier_front (c ∷ P) d e Q (mathlib.Core.List.Memᴰ.head q) = rw q (here (mathlib.Core.List.Memᴰ.append_right P (mathlib.Core.List.Memᴰ.head refl)))
 earlier_front (c ∷ P) d e Q (mathlib.Core.List.Memᴰ.tail m) = there (earlier_front P d e Q m)
 

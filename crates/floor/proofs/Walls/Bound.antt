@@ -68,6 +68,7 @@ part_new n x y c l u = rw (lt-leb n x l, le-leb n y u) (omega arith)
 -- from x to y the heads gain at least the room of one that is numbered above x and at most y
 room_step : (T : List Head) (g : ℕ → ℕ) (x y : ℕ) (h : Head) → Memᴰ h T → x < g h.side → g h.side ≤ y → room T g x + h.most ≤ room T g y
 unfolding room
+room_step [] g x y h x5 l u = elim x5 [ ]
 room_step (k ∷ T) g x y h (Memᴰ.head e) l u =
     rw (← e) (omega (arith, part_new (g h.side) x y h.most l u, room_mono T g x y (omega arith)))
 room_step (k ∷ T) g x y h (Memᴰ.tail m) l u =

@@ -114,6 +114,7 @@ met_holds f (before a b x) e = leb-true (at f a + suc x) (at f b) e
 -- STABLE: every rule met means respected
 pub meets_respects : (E : List Rule) (f : List ℕ) → meets E f ≡ true → Respects E (at f)
 unfolding meets
+meets_respects [] f e r x'' = elim x'' [ ]
 meets_respects (q ∷ E) f e r (Memᴰ.head p) = met_holds f r (rw p (and_left (met f q) (meets E f) e))
 meets_respects (q ∷ E) f e r (Memᴰ.tail m) = meets_respects E f (and_right (met f q) (meets E f) e) r m
 

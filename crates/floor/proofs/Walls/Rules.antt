@@ -54,6 +54,7 @@ module _ (P : Rule → Type 0) where
 
   -- a list of one rule that has P
   every_one : (r : Rule) → P r → Every P (r ∷ [])
+  every_one r h q (Memᴰ.tail x4) = elim x4 [ ]
   every_one r h q (Memᴰ.head e) = rw e h
 
   -- a rule under a condition that holds is there
@@ -102,6 +103,7 @@ module _ (P : Rule → Type 0) where
     -- where every rule of a star has P, what each of its entries says has
     star_asks : (u : ℕ) (s : Star) → Every P (star_rules a u s) → (e : Entry) → Memᴰ e s → Asks P a u e
     unfolding star_rules
+    star_asks u [] r e x'' = elim x'' [ ]
     star_asks u (f ∷ s) r e (Memᴰ.head q) = rw q (entry_asks u f (λ x m. r x (Memᴰ.append_left _ m)))
     star_asks u (f ∷ s) r e (Memᴰ.tail m) = star_asks u s (λ x n. r x (Memᴰ.append_right (entry_rules a u f) n)) e m
 
