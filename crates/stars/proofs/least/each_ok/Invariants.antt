@@ -1,0 +1,12 @@
+use Prim.Native.Nat.{◌-◌}
+use mathlib.Core.Path.{◌≡◌}
+use Rattle.floor.specs.Lists.{all}
+use Rattle.floor.specs.Jobs.{size_ok}
+use Rattle.stars.specs.Sized.{sizes_from, sizes_in}
+use Rattle.stars.proofs.least.each_ok.Given as goal
+
+abbrev pub invariant-loop-i : goal.invariant-loop-i
+invariant-loop-i l = all size_ok (sizes_from (l.count - l.i) l.i l.sizes) ≡ all size_ok (sizes_in l.told l.sizes)
+
+abbrev pub decreases-loop-i : goal.decreases-loop-i
+decreases-loop-i l = l.count - l.i
