@@ -1,5 +1,6 @@
 // Boards made by hand: every call answers of what stands in them, by one total definition, and stops at none.
 #![tactic(auto)]
+
 use board::{Board, Reply};
 use drawing::Touch;
 use std::io;

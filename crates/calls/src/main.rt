@@ -1,5 +1,6 @@
 // Reads calls from standard input, a field each, makes them on one board, and prints a line an answer.
 #![tactic(auto)]
+
 use board::{Board, Reply, Step};
 use drawing::{Plan, Rect, Touch};
 use elsewhere::Verdict;
@@ -119,7 +120,12 @@ fn put_made(rt: &impl Print, page: &mut [u8; 4096], turns: usize) -> io::Result<
 }
 
 // The length that was written, and the whole lent buffer, so that what lies behind is seen too.
-fn put_wrote<'a>(rt: &impl Print, page: &mut [u8; 4096], length: usize, lent: &'a [u8]) -> io::Result<usize> {
+fn put_wrote<'a>(
+    rt: &impl Print,
+    page: &mut [u8; 4096],
+    length: usize,
+    lent: &'a [u8],
+) -> io::Result<usize> {
     let name = page::put_word(rt, page, 0, b"wrote")?;
     let next = page::put_next(rt, page, name, length)?;
     let start = page::put(rt, page, next, b' ')?;
@@ -127,7 +133,13 @@ fn put_wrote<'a>(rt: &impl Print, page: &mut [u8; 4096], length: usize, lent: &'
 }
 
 // What a call answered: of a job done its sheet, of a writing also the lent buffer.
-fn put_reply<'a>(rt: &impl Print, page: &mut [u8; 4096], board: Board, reply: Reply, lent: &'a [u8]) -> io::Result<usize> {
+fn put_reply<'a>(
+    rt: &impl Print,
+    page: &mut [u8; 4096],
+    board: Board,
+    reply: Reply,
+    lent: &'a [u8],
+) -> io::Result<usize> {
     let plan = board.plan;
     match reply {
         Reply::Refused(k) => put_refused(rt, page, k),
@@ -204,7 +216,13 @@ fn written(board: Board, tag: u8, lent: &mut [u8]) -> Step {
 }
 
 // A writing into the front of a buffer, of which so many bytes are lent.
-fn write_front(rt: &impl Print, board: Board, tag: u8, buffer: &mut [u8], size: usize) -> io::Result<Session> {
+fn write_front(
+    rt: &impl Print,
+    board: Board,
+    tag: u8,
+    buffer: &mut [u8],
+    size: usize,
+) -> io::Result<Session> {
     if buffer.len() < size {
         return broken(rt, board);
     }

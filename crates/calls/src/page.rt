@@ -15,7 +15,12 @@ pub fn put(rt: &impl Print, page: &mut [u8; 4096], at: usize, byte: u8) -> io::R
 }
 
 // Some bytes, put as they are.
-pub fn put_word<'a>(rt: &impl Print, page: &mut [u8; 4096], at: usize, word: &'a [u8]) -> io::Result<usize> {
+pub fn put_word<'a>(
+    rt: &impl Print,
+    page: &mut [u8; 4096],
+    at: usize,
+    word: &'a [u8],
+) -> io::Result<usize> {
     let mut next = at;
     let mut i: usize = 0;
     while i < word.len() {
@@ -26,7 +31,12 @@ pub fn put_word<'a>(rt: &impl Print, page: &mut [u8; 4096], at: usize, word: &'a
 }
 
 // A number in decimal.
-pub fn put_number(rt: &impl Print, page: &mut [u8; 4096], at: usize, n: usize) -> io::Result<usize> {
+pub fn put_number(
+    rt: &impl Print,
+    page: &mut [u8; 4096],
+    at: usize,
+    n: usize,
+) -> io::Result<usize> {
     let mut text = [0u8; 20];
     let digits = letters::number::put_decimal(&mut text, 0, n);
     put_word(rt, page, at, &text[..digits])
@@ -55,7 +65,12 @@ fn put_byte(rt: &impl Print, page: &mut [u8; 4096], at: usize, byte: u8) -> io::
 }
 
 // Some bytes in hex.
-pub fn put_hex<'a>(rt: &impl Print, page: &mut [u8; 4096], at: usize, bytes: &'a [u8]) -> io::Result<usize> {
+pub fn put_hex<'a>(
+    rt: &impl Print,
+    page: &mut [u8; 4096],
+    at: usize,
+    bytes: &'a [u8],
+) -> io::Result<usize> {
     let mut next = at;
     let mut i: usize = 0;
     while i < bytes.len() {

@@ -1,6 +1,7 @@
 // Reads a job behind its length, two bytes with the high byte first, and then a plan from standard input, and prints whether that plan is good for the
 // job: yes, no, the number of the refusal, or that the input is too long.
 #![tactic(auto)]
+
 use std::io;
 
 // Whether the plan is good for the job, written out.

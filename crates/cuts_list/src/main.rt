@@ -1,6 +1,7 @@
 // Reads a job from standard input and prints the cuts of its plan for the contractor, a line each: direction and place of a cut, then its left or lower part,
 // then the other; the room at a leaf; or the number of the refusal, or that the input is too long.
 #![tactic(auto)]
+
 use std::io;
 
 // The cuts of a job, written out.

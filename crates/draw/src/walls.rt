@@ -4,6 +4,7 @@ ghost use Rattle.std.specs.Prelude.{◌≤◌};
 use crate::place::{Axis, Sheet};
 use crate::stretches::Stretch;
 use crate::{pen, stretches};
+use std::io;
 
 // A wall: where it runs, its place among those of its direction, and the room sides on it.
 #[derive(Clone, Copy)]
@@ -40,14 +41,14 @@ fn wall_at(rows: &[u16], i: usize, along: Axis, nth: usize) -> Wall
 }
 
 // The mark: a letter for the direction and a number.
-fn mark(wall: Wall) {
+fn mark(rt: &impl Print, wall: Wall) -> io::Result<()> {
     let stretch = wall.stretch;
     let along = stretch.along;
     match along {
-        Axis::Up => pen::word(b"W"),
-        Axis::Across => pen::word(b"L"),
+        Axis::Up => pen::word(rt, b"W")?,
+        Axis::Across => pen::word(rt, b"L")?,
     }
-    pen::number(wall.nth);
+    pen::number(rt, wall.nth)
 }
 
 // How long a wall is.
@@ -59,15 +60,15 @@ fn length(stretch: Stretch) -> usize {
 }
 
 // The mark, where the wall runs, how long it is and how many room sides lie on it, as shown where the pointer rests on the mark.
-fn title(wall: Wall) {
-    pen::word(b"<title>wall ");
-    mark(wall);
-    stretches::tell(wall.stretch);
-    pen::word(b", length ");
-    pen::number(length(wall.stretch));
-    pen::word(b", room sides ");
-    pen::number(fields::number(wall.sides));
-    pen::word(b"</title>");
+fn title(rt: &impl Print, wall: Wall) -> io::Result<()> {
+    pen::word(rt, b"<title>wall ")?;
+    mark(rt, wall)?;
+    stretches::tell(rt, wall.stretch)?;
+    pen::word(rt, b", length ")?;
+    pen::number(rt, length(wall.stretch))?;
+    pen::word(rt, b", room sides ")?;
+    pen::number(rt, fields::number(wall.sides))?;
+    pen::word(rt, b"</title>")
 }
 
 // Half the room that a mark takes along its wall: W is wider than L, and two digits are wider than one.
@@ -94,15 +95,15 @@ fn half(wall: Wall, size: usize) -> usize
 }
 
 // A wall, marked in its middle, on white.
-fn mark_wall(sheet: Sheet, wall: Wall) {
+fn mark_wall(rt: &impl Print, sheet: Sheet, wall: Wall) -> io::Result<()> {
     let half = half(wall, stretches::size_of(sheet));
-    stretches::open(b"wall", sheet, wall.stretch);
-    title(wall);
-    stretches::ground(sheet, wall.stretch, half, b"#ffffff");
-    stretches::open_text(sheet, wall.stretch);
-    pen::word(b">");
-    mark(wall);
-    stretches::close();
+    stretches::open(rt, b"wall", sheet, wall.stretch)?;
+    title(rt, wall)?;
+    stretches::ground(rt, sheet, wall.stretch, half, b"#ffffff")?;
+    stretches::open_text(rt, sheet, wall.stretch)?;
+    pen::word(rt, b">")?;
+    mark(rt, wall)?;
+    stretches::close(rt)
 }
 
 // The wall in row i of a register: the upright ones come first, and each direction is counted from 1 on.
@@ -116,14 +117,15 @@ fn listed(rows: &[u16], uprights: usize, i: usize) -> Wall
 }
 
 // All walls of so many rooms on a sheet, marked.
-pub fn mark_all(sheet: Sheet, rects: &[u16], rooms: u8) {
+pub fn mark_all(rt: &impl Print, sheet: Sheet, rects: &[u16], rooms: u8) -> io::Result<()> {
     let register = registers::register_of(rects, rooms, sheet.width, sheet.height);
     let rows = register.rows;
     let uprights = fields::number(register.uprights);
     let many = fields::number(register.many);
     let mut i: usize = 0;
     while i < many {
-        mark_wall(sheet, listed(&rows, uprights, i));
+        mark_wall(rt, sheet, listed(&rows, uprights, i))?;
         i += 1;
     }
+    Ok(())
 }

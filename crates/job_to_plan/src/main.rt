@@ -1,5 +1,6 @@
 // Reads a job from standard input and writes the bytes of its plan; or the number of the refusal, or that the input is too long.
 #![tactic(auto)]
+
 use std::io;
 
 // What is written for a job.

@@ -1,5 +1,6 @@
 // Reads a job from standard input and prints it as text, or the number of the refusal, or that the input is too long.
 #![tactic(auto)]
+
 use std::io;
 
 // The text of a job, written out.

@@ -1,6 +1,7 @@
 // Reads a job from standard input, and writes the job with its floor narrowed, and on standard error how many turns were made;
 // or the number of the refusal, or that the input is too long.
 #![tactic(auto)]
+
 ghost use Rattle.std.specs.Prelude.{◌≤◌, length};
 
 use std::io;

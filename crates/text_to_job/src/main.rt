@@ -1,5 +1,6 @@
 // Reads the text of a job from standard input and prints the bytes of the job, or the first wrong line, or that the input is too long.
 #![tactic(auto)]
+
 use std::io;
 
 // The job of a text, written out.

@@ -1,6 +1,7 @@
 // Reads two rooms, two bytes each with the high byte first, and a job from standard input, and writes the job with their contact turned;
 // or the number of the refusal, or that the input is too long.
 #![tactic(auto)]
+
 use std::io;
 
 // What is written for two rooms and a job.

@@ -1,6 +1,7 @@
 // Reads a job from standard input and prints the walls of its plan for the joiner, a line each: direction, number, beginning, end, room sides; or the number
 // of the refusal, or that the input is too long.
 #![tactic(auto)]
+
 use std::io;
 
 // The walls of a job, written out.
