@@ -18,7 +18,7 @@ mod names; // names.rt: what a rectangle is called, and its tint
 mod rooms; // rooms.rt: the rectangles: ground, outline and number
 mod least; // least.rt: least sizes where they bind
 mod stretches; // stretches.rt: marks on stretches of lines
-mod walls; // walls.rt: the marks of the walls, as in the joiner's list
+mod wall_marks; // wall_marks.rt: the marks of the walls, as in the joiner's list
 mod cutting; // cutting.rt: the numbers of the cuts, in their order
 mod grid; // grid.rt: the lines of the cells
 mod sides; // sides.rt: numbers along the sheet's sides
@@ -75,7 +75,7 @@ fn put_marks(
     tree: &[u8],
 ) -> io::Result<()> {
     match marked {
-        Marked::Walls => walls::mark_all(rt, sheet, &plan.rects, plan.rooms),
+        Marked::Walls => wall_marks::mark_all(rt, sheet, &plan.rects, plan.rooms),
         Marked::Cuts => cutting::number_all(rt, sheet, tree),
     }
 }
