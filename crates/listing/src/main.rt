@@ -1,5 +1,6 @@
 // Reads a job from standard input and prints its plan, or the number of the refusal, or that the input is too long.
 #![tactic(auto)]
+
 use std::io;
 
 // The plan of a job, written out.
