@@ -1,4 +1,3 @@
-use Prim.Native.Nat.{◌-◌}
 use mathlib.Core.Path.{refl}
 use native.Mathlib.Omega.{arith}
 use Rattle.texts.proofs.Registers.{walls_none, none_short, walls_more, more_short, walls_done, walls_short}
