@@ -1,5 +1,6 @@
 // Numbers and words, put at a place of a lent buffer, as far as it reaches; and the page that programs print.
 #![tactic(auto)]
+
 ghost use Rattle.std.specs.Prelude.{◌≡◌, replicate};
 
 pub mod number; // number.rt: a number in decimal

@@ -1,6 +1,7 @@
 // A good order in which to run the rules of one direction: one climb through it gives the numbers, or comes to a circle of walls and goes round it.
 // Only the time goes by this order and never the answer, so the functions here say little more than that they are safe and return.
 #![tactic(auto)]
+
 ghost use Rattle.std.specs.Prelude.{◌≤◌, length};
 
 mod sheet; // sheet.rt: the sheet that the order is worked out on
