@@ -1,5 +1,6 @@
 // Jobs from bytes: tests 1 to 3, tests 1 to 6 and 17, the star question, and writing a job back.
 #![tactic(auto)]
+
 ghost use Rattle.std.specs.Prelude.{◌≡◌};
 ghost use Rattle.floor.specs.Jobs.{sized_job, read_job, raw_star, first_three, first_six, sizes_pass, write_sized};
 ghost use Rattle.jobs.specs.Reads.{Tells};

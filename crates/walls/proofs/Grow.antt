@@ -37,6 +37,7 @@ lift_grew E f a b w top l h t step = rw (lift_is_raise f a b w h) (record {
 
 -- numbers that respect a rule respect the list of that rule alone
 one_holds : (g : ℕ → ℕ) (r : Rule) → Holds g r → Respects (r ∷ []) g
+one_holds g r h q (Memᴰ.tail x4) = elim x4 [ ]
 one_holds g r h q (Memᴰ.head e) = rw e h
 
 -- a rule with a gap is one lift

@@ -99,6 +99,7 @@ module _ (ends nbr kind : List ℕ) (n : ℕ) where
       where
         only : Ours (before (low (4 + i)) (high (4 + i)) (extra (axis_of w) z (4 + i)))
             → Among (before (low (4 + i)) (high (4 + i)) (extra (axis_of w) z (4 + i)) ∷ []) (rules (axis_of w) job z)
+        only m r (Memᴰ.tail x4) = elim x4 [ ]
         only m r (Memᴰ.head e) = rw e m
 
 -- and one visit more

@@ -1,0 +1,15 @@
+use Prim.Native.Nat.{◌+◌, ◌-◌, ◌*◌, ◌≤◌}
+use mathlib.Core.Path.{◌≡◌}
+use lib.ListN.{length}
+use lib.Seq.{sets}
+use Rattle.floor.specs.Jobs.{size_bytes}
+use Rattle.stars.specs.Sized.{sizes_from, sizes_in}
+use Rattle.jobs.proofs.put.put_list.Given as goal
+
+abbrev pub invariant-loop-i : goal.invariant-loop-i
+invariant-loop-i l =
+    (l.i ≤ l.many) × (length l.out ≡ length l.initial.out)
+    × (sets l.out (l.at + 2 * l.i) (size_bytes (sizes_from (l.many - l.i) l.i l.sizes)) ≡ sets l.initial.out l.at (size_bytes (sizes_in l.many l.sizes)))
+
+abbrev pub decreases-loop-i : goal.decreases-loop-i
+decreases-loop-i l = l.many - l.i
