@@ -15,7 +15,8 @@ use Rattle.floor.specs.Jobs.{Job, SizedJob, test2}
 use Rattle.floor.specs.Jobs.Facts.{Passes}
 use Rattle.floor.specs.Walls.{Axis, Numbers, upright, level, rules, at, job_numbers}
 use Rattle.floor.specs.Plans.{Rect, nowhere, Plan, rect_of, Touch, plan_of, drawable, Answer, refused, held, past, test18, drawn, Over, write_plan}
-use Rattle.floor.proofs.Plans.Held.{one_number, not_held, Drawn as Came, drawn_held, drawable_is_floor, held_good, held_roomy, eighteen, nine}
+use Rattle.floor.specs.Plans.Held.{Drawn as Came}
+use Rattle.floor.proofs.Plans.Held.{one_number, not_held, drawn_held, drawable_is_floor, held_good, held_roomy, eighteen, nine}
 use Rattle.floor.specs.Floor.{Complete, Floor, Roomy}
 use Rattle.floor.proofs.Floor.Touches.{one_side, one_length, not_clear}
 use Rattle.fields.specs.declared.Written.{Written}

@@ -1,0 +1,13 @@
+use Prim.Native.Nat.{◌-◌}
+use mathlib.Core.Path.{◌≡◌}
+use lib.ListN.{length}
+use Rattle.stars.specs.Held.{cells}
+use Rattle.job_texts.specs.Writes.{more_text}
+use Rattle.job_texts.proofs.Put.{Left}
+use Rattle.job_texts.proofs.write.put_more.Given as goal
+
+abbrev pub invariant-loop-k : goal.invariant-loop-k
+invariant-loop-k l = (length l.out ≡ length l.initial.out) × Left l.initial.out l.at (more_text (cells (l.end - l.from) l.from l.nbr l.kind)) l.out l.next (more_text (cells (l.end - l.k) l.k l.nbr l.kind))
+
+abbrev pub decreases-loop-k : goal.decreases-loop-k
+decreases-loop-k l = l.end - l.k
