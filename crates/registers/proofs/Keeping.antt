@@ -52,6 +52,7 @@ Along d ws = (w : Partition) → Memᴰ w ws → w.direction ≡ d
 -- what is merged keeps the direction
 merge_along : (d : ℕ) (w : Partition) (l : List Stretch) → w.direction ≡ d → Along d (merge_from d w l)
 unfolding merge_from extended opened
+merge_along d w [] e v (Memᴰ.tail x6) = elim x6 [ ]
 merge_along d w [] e v (Memᴰ.head q) = rw q e
 merge_along d w (s ∷ l) e v m = go (goes_on w s) (merge_along d (extended w s) l e v) (merge_along d (opened d s) l refl v) m
   where
