@@ -99,6 +99,27 @@ read_cut : (h l : ℕ) (v : List ℕ) → length v < 256 * h + l → read_field 
 unfolding read_field
 read_cut h l v k = let z : leb (256 * h + l) (length v) ≡ false = lt-leb (256 * h + l) (length v) k in rw z
 
+-- one byte is no whole field
+one_byte : (t : ℕ) → read_field (t ∷ []) ≡ broken
+unfolding read_field
+one_byte t = refl
+
+-- nor are two
+two_bytes : (t x : ℕ) → read_field (t ∷ x ∷ []) ≡ broken
+unfolding read_field
+two_bytes t x = refl
+
+-- a head with enough bytes behind it is a whole field, whatever its tag
+read_long : (t x y : ℕ) (rest : List ℕ) → leb (256 * x + y) (length rest) ≡ true
+    → read_field (t ∷ x ∷ y ∷ rest) ≡ field t (take (256 * x + y) rest) (drop (256 * x + y) rest)
+unfolding read_field
+read_long t x y rest q = rw q
+
+-- and with too few none
+read_less : (t x y : ℕ) (rest : List ℕ) → leb (256 * x + y) (length rest) ≡ false → read_field (t ∷ x ∷ y ∷ rest) ≡ broken
+unfolding read_field
+read_less t x y rest q = rw q
+
 -- AT FIRST no job is read
 pub known_start : Known 200 (replicate 16 0) []
 known_start = record { past = []; whole = λ rest. tell_start rest; are = sym figures_none; many = omega arith }
@@ -137,8 +158,8 @@ module _ (left : ℕ) (sums bs : List ℕ) where
     where
       other : (t x y : ℕ) (b : Bool) → leb (256 * x + y) (length rest) ≡ b → (t ≡ 9 → ⊥)
           → tell_with k.past (unwrap (suc left) (t ∷ x ∷ y ∷ rest)) ≡ refuses_all 19
-      other t x y true q n = tell_other k.past left t (x ∷ y ∷ rest) t (take (256 * x + y) rest) (drop (256 * x + y) rest) (unfold read_field in rw q) n
-      other t x y false q n = tell_broken k.past left t (x ∷ y ∷ rest) (unfold read_field in rw q)
+      other t x y true q n = tell_other k.past left t (x ∷ y ∷ rest) t (take (256 * x + y) rest) (drop (256 * x + y) rest) (read_long t x y rest q) n
+      other t x y false q n = tell_broken k.past left t (x ∷ y ∷ rest) (read_less t x y rest q)
 
       no_tag : (t x y : ℕ) → head_in (t ∷ x ∷ y ∷ []) ≡ Broken → t ≡ 9 → ⊥
       no_tag t x y e n = unfold head_in in no_head (sym (rw (eq-eqb t 9 n) at e))
@@ -147,9 +168,9 @@ module _ (left : ℕ) (sums bs : List ℕ) where
           → tell_with k.past (unwrap (suc left) (head ++ rest)) ≡ refuses_all 19
       go [] e any few three = absurd (omega arith)
       go (t ∷ []) e any few (inl l) = absurd (omega arith)
-      go (t ∷ []) e any few (inr z) = rw z (tell_broken k.past left t [] (unfold read_field in refl))
+      go (t ∷ []) e any few (inr z) = rw z (tell_broken k.past left t [] (one_byte t))
       go (t ∷ x ∷ []) e any few (inl l) = absurd (omega arith)
-      go (t ∷ x ∷ []) e any few (inr z) = rw z (tell_broken k.past left t (x ∷ []) (unfold read_field in refl))
+      go (t ∷ x ∷ []) e any few (inr z) = rw z (tell_broken k.past left t (x ∷ []) (two_bytes t x))
       go (t ∷ x ∷ y ∷ []) e any few three = other t x y (leb (256 * x + y) (length rest)) refl (no_tag t x y e)
       go (t ∷ x ∷ y ∷ a ∷ s) e any few three = absurd (omega arith)
 

@@ -1,0 +1,14 @@
+use Rattle.texts.proofs.Answers.{long_cuts, cuts_text_lem, refusal_cuts}
+use borrow.Author.Rules.{rules}
+use Rattle.texts.proofs.list_cuts.Goals as goal
+
+pub returns-then-input-gt8192 : goal.returns-then-input-gt8192
+returns-then-input-gt8192 c = rw (long_cuts c.args.input.now (search rules)) c.list_too_long.ensures
+
+pub returns-in-Drawn : goal.returns-in-Drawn
+returns-in-Drawn c =
+    cuts_text_lem _ (search rules) _ c.plan_job-planned.ensures _ _ _ (search rules) c.put_cuts.ensures (search rules)
+
+pub returns-in-Refused : goal.returns-in-Refused
+returns-in-Refused c =
+    refusal_cuts _ (search rules) _ c.plan_job-planned.ensures _ _ _ _ c.list_refusal.ensures (search rules)
