@@ -2,10 +2,12 @@
 // On standard input: n to number its walls, l to load it, t to turn a contact of it, s to make it narrower, q to ask of it; 0 to 9, the rounds as a power of ten;
 // the contact's two rooms, a byte each; then the job.
 #![tactic(auto)]
+
 use board::{Board, Reply};
 use drawing::Touch;
 use jobs::Answer;
 use stars::Stars;
+use std::io;
 use walls::Walls;
 
 // What a number counts: an upright one once, and a level one a million times.
@@ -216,15 +218,14 @@ fn done(what: u8, rounds: u64, u: usize, v: usize, job: &[u8]) -> u64 {
     }
 }
 
-fn main() {
+fn main(rt: HostRuntime) -> io::Result<()> {
     let mut input = [0u8; 1028];
-    let n = io::read_full(0, &mut input);
+    let n = streams::read_full(&mut rt.stdin(), &mut input)?;
     if n < 4 {
-        return;
+        return Ok(());
     }
     let u = fields::wide(input[2]);
     let v = fields::wide(input[3]);
     let sum = done(input[0], power(input[1]), u, v, &input[4..n]);
-    io::print_decimal(1, sum);
-    io::write_all(1, b"\n");
+    println!(rt; "{sum}")
 }

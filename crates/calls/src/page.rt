@@ -1,68 +1,95 @@
 // A page of text: bytes are gathered on it, and it is written out when it is full and where an answer ends.
+ghost use Rattle.std.specs.Prelude.{◌<◌};
+
+use std::io;
 
 // A byte put behind those gathered; a full page is written out first.
-pub fn put(page: &mut [u8; 4096], at: usize, byte: u8) -> usize {
+pub fn put(rt: &impl Print, page: &mut [u8; 4096], at: usize, byte: u8) -> io::Result<usize> {
     if at < 4096 {
         page[at] = byte;
-        return at + 1;
+        return Ok(at + 1);
     }
-    io::write_all(1, page);
+    rt.write_all(page)?;
     page[0] = byte;
-    1
+    Ok(1)
 }
 
 // Some bytes, put as they are.
-pub fn put_word<'a>(page: &mut [u8; 4096], at: usize, word: &'a [u8]) -> usize {
+pub fn put_word<'a>(
+    rt: &impl Print,
+    page: &mut [u8; 4096],
+    at: usize,
+    word: &'a [u8],
+) -> io::Result<usize> {
     let mut next = at;
     let mut i: usize = 0;
     while i < word.len() {
-        next = put(page, next, word[i]);
+        next = put(rt, page, next, word[i])?;
         i += 1;
     }
-    next
+    Ok(next)
 }
 
 // A number in decimal.
-pub fn put_number(page: &mut [u8; 4096], at: usize, n: usize) -> usize {
+pub fn put_number(
+    rt: &impl Print,
+    page: &mut [u8; 4096],
+    at: usize,
+    n: usize,
+) -> io::Result<usize> {
     let mut text = [0u8; 20];
-    let digits = io::decimal(n as u64, &mut text);
-    put_word(page, at, &text[..digits])
+    let digits = letters::number::put_decimal(&mut text, 0, n);
+    put_word(rt, page, at, &text[..digits])
 }
 
 // A space and a number in decimal.
-pub fn put_next(page: &mut [u8; 4096], at: usize, n: usize) -> usize {
-    let next = put(page, at, b' ');
-    put_number(page, next, n)
+pub fn put_next(rt: &impl Print, page: &mut [u8; 4096], at: usize, n: usize) -> io::Result<usize> {
+    let next = put(rt, page, at, b' ')?;
+    put_number(rt, page, next, n)
+}
+
+// A digit in hex.
+fn hex_digit(digit: u8) -> u8
+    requires { digit < 16 }
+{
+    if digit < 10 {
+        return b'0' + digit;
+    }
+    b'a' - 10 + digit
 }
 
 // A byte in hex, two digits.
-fn put_byte(page: &mut [u8; 4096], at: usize, byte: u8) -> usize {
-    let mut text = [0u8; 16];
-    let digits = io::hex(byte as u64, 2, &mut text);
-    put_word(page, at, &text[..digits])
+fn put_byte(rt: &impl Print, page: &mut [u8; 4096], at: usize, byte: u8) -> io::Result<usize> {
+    let next = put(rt, page, at, hex_digit(byte / 16))?;
+    put(rt, page, next, hex_digit(byte % 16))
 }
 
 // Some bytes in hex.
-pub fn put_hex<'a>(page: &mut [u8; 4096], at: usize, bytes: &'a [u8]) -> usize {
+pub fn put_hex<'a>(
+    rt: &impl Print,
+    page: &mut [u8; 4096],
+    at: usize,
+    bytes: &'a [u8],
+) -> io::Result<usize> {
     let mut next = at;
     let mut i: usize = 0;
     while i < bytes.len() {
-        next = put_byte(page, next, bytes[i]);
+        next = put_byte(rt, page, next, bytes[i])?;
         i += 1;
     }
-    next
+    Ok(next)
 }
 
 // The front of some bytes, written out.
-fn send_front(page: &[u8], end: usize) {
+fn send_front(rt: &impl Print, page: &[u8], end: usize) -> io::Result<()> {
     if page.len() < end {
-        return;
+        return Ok(());
     }
-    io::write_all(1, &page[..end]);
+    rt.write_all(&page[..end])
 }
 
 // What is gathered, written out as a line.
-pub fn send(page: &mut [u8; 4096], at: usize) {
-    let end = put(page, at, b'\n');
-    send_front(page, end);
+pub fn send(rt: &impl Print, page: &mut [u8; 4096], at: usize) -> io::Result<()> {
+    let end = put(rt, page, at, b'\n')?;
+    send_front(rt, page, end)
 }

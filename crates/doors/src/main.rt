@@ -1,14 +1,19 @@
 // Reads a job from standard input and prints every contact of two rooms, or the number of the refusal, or that the input is too long.
 #![tactic(auto)]
 
-fn main() {
-    let mut input = [0u8; 8193];
-    let n = io::read_full(0, &mut input);
-    if streams::unread() {
-        return;
-    }
+use std::io;
+
+// The contacts of a job, written out.
+fn answer(rt: &impl Print, input: &[u8]) -> io::Result<()> {
     let mut out = texts::doors_page();
-    let length = texts::list_doors(&input[..n], &mut out);
-    io::write_all(1, &out[..length]);
-    streams::unwritten();
+    let length = texts::list_doors(input, &mut out);
+    rt.write_all(&out[..length])
+}
+
+fn main(rt: HostRuntime) {
+    let mut input = [0u8; 8193];
+    match streams::read_full(&mut rt.stdin(), &mut input) {
+        Ok(n) => streams::unwritten(&rt, answer(&rt, &input[..n])),
+        Err(why) => streams::unread(&rt, why),
+    }
 }

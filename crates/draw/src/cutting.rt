@@ -4,6 +4,7 @@ ghost use Rattle.std.specs.Prelude.{◌≤◌};
 use crate::place::{Axis, Sheet};
 use crate::stretches::Stretch;
 use crate::{pen, place, stretches};
+use std::io;
 
 // A part of the floor, by the lines that it spans.
 #[derive(Clone, Copy)]
@@ -150,45 +151,46 @@ fn half(nth: usize, size: usize) -> usize
 }
 
 // A cut's number in the middle of its stretch, white on black, so that it is not taken for a room's.
-fn number_cut(sheet: Sheet, stretch: Stretch, nth: usize) {
+fn number_cut(rt: &impl Print, sheet: Sheet, stretch: Stretch, nth: usize) -> io::Result<()> {
     let half = half(nth, stretches::size_of(sheet));
-    stretches::open(b"cut", sheet, stretch);
-    pen::word(b"<title>cut ");
-    pen::number(nth);
-    stretches::tell(stretch);
-    pen::word(b"</title>");
-    stretches::ground(sheet, stretch, half, b"#000000");
-    stretches::open_text(sheet, stretch);
-    pen::word(b" font-weight=\"bold\" fill=\"#ffffff\">");
-    pen::number(nth);
-    stretches::close();
+    stretches::open(rt, b"cut", sheet, stretch)?;
+    pen::word(rt, b"<title>cut ")?;
+    pen::number(rt, nth)?;
+    stretches::tell(rt, stretch)?;
+    pen::word(rt, b"</title>")?;
+    stretches::ground(rt, sheet, stretch, half, b"#000000")?;
+    stretches::open_text(rt, sheet, stretch)?;
+    pen::word(rt, b" font-weight=\"bold\" fill=\"#ffffff\">")?;
+    pen::number(rt, nth)?;
+    stretches::close(rt)
 }
 
 // What a field shows: the number of a cut, nothing of a room.
-fn show(sheet: Sheet, step: Step, nth: usize) {
+fn show(rt: &impl Print, sheet: Sheet, step: Step, nth: usize) -> io::Result<()> {
     if step.cuts == 1 {
-        number_cut(sheet, step.stretch, nth);
+        number_cut(rt, sheet, step.stretch, nth)?;
     }
+    Ok(())
 }
 
 // All cuts of a tree, numbered. The parts that wait stand on a stack, the lower on top; sixty rooms are never more than sixty parts.
-pub fn number_all(sheet: Sheet, tree: &[u8]) {
+pub fn number_all(rt: &impl Print, sheet: Sheet, tree: &[u8]) -> io::Result<()> {
     let mut parts = [whole(sheet); 64];
     let mut many: usize = 1;
     let mut nth: usize = 0;
     let mut at: usize = 0;
     while at < 535 {
         if many == 0 {
-            return;
+            return Ok(());
         }
         if 63 < many {
-            return;
+            return Ok(());
         }
         let top = many - 1;
         let part = parts[top];
         let step = step_at(tree, at, part);
         nth = nth + step.cuts;
-        show(sheet, step, nth);
+        show(rt, sheet, step, nth)?;
         let high = step.high;
         let low = step.low;
         parts[top] = high;
@@ -196,4 +198,5 @@ pub fn number_all(sheet: Sheet, tree: &[u8]) {
         many = top + 2 * step.cuts;
         at = at + step.bytes;
     }
+    Ok(())
 }

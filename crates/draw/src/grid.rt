@@ -3,51 +3,63 @@ ghost use Rattle.std.specs.Prelude.{◌<◌};
 
 use crate::place::{Axis, Sheet};
 use crate::{pen, place};
+use std::io;
 
 // The line at a place on an axis, from one edge of the sheet to the other.
-fn line(axis: Axis, sheet: Sheet, at: u16) {
+fn line(rt: &impl Print, axis: Axis, sheet: Sheet, at: u16) -> io::Result<()> {
     match axis {
         Axis::Across => {
-            pen::point(place::across(sheet, at), place::down(sheet, sheet.height));
-            pen::word(b"v");
-            pen::number(place::span(sheet, 0, sheet.height));
+            pen::point(
+                rt,
+                place::across(sheet, at),
+                place::down(sheet, sheet.height),
+            )?;
+            pen::word(rt, b"v")?;
+            pen::number(rt, place::span(sheet, 0, sheet.height))
         }
         Axis::Up => {
-            pen::point(place::across(sheet, 0), place::down(sheet, at));
-            pen::word(b"h");
-            pen::number(place::span(sheet, 0, sheet.width));
+            pen::point(rt, place::across(sheet, 0), place::down(sheet, at))?;
+            pen::word(rt, b"h")?;
+            pen::number(rt, place::span(sheet, 0, sheet.width))
         }
     }
 }
 
 // Every so many lines along an axis.
-fn lines(axis: Axis, sheet: Sheet, every: u16)
+fn lines(rt: &impl Print, axis: Axis, sheet: Sheet, every: u16) -> io::Result<()>
     requires { 0 < every }
 {
     let last = place::cells(axis, sheet);
     let mut at: u16 = 0;
     while at < last {
         if at % every == 0 {
-            line(axis, sheet, at);
+            line(rt, axis, sheet, at)?;
         }
         at += 1;
     }
+    Ok(())
 }
 
 // The lines along both axes, as one path.
-fn path(sheet: Sheet, every: u16)
+fn path(rt: &impl Print, sheet: Sheet, every: u16) -> io::Result<()>
     requires { 0 < every }
 {
-    pen::word(b" d=\"");
-    lines(Axis::Across, sheet, every);
-    lines(Axis::Up, sheet, every);
-    pen::word(b"\"/>\n");
+    pen::word(rt, b" d=\"")?;
+    lines(rt, Axis::Across, sheet, every)?;
+    lines(rt, Axis::Up, sheet, every)?;
+    pen::word(rt, b"\"/>\n")
 }
 
 // The grid: every line, then every fifth.
-pub fn grid(sheet: Sheet) {
-    pen::word(b"<path fill=\"none\" stroke=\"#bbbbbb\" stroke-width=\"0.5\"");
-    path(sheet, 1);
-    pen::word(b"<path fill=\"none\" stroke=\"#888888\" stroke-width=\"0.8\"");
-    path(sheet, 5);
+pub fn grid(rt: &impl Print, sheet: Sheet) -> io::Result<()> {
+    pen::word(
+        rt,
+        b"<path fill=\"none\" stroke=\"#bbbbbb\" stroke-width=\"0.5\"",
+    )?;
+    path(rt, sheet, 1)?;
+    pen::word(
+        rt,
+        b"<path fill=\"none\" stroke=\"#888888\" stroke-width=\"0.8\"",
+    )?;
+    path(rt, sheet, 5)
 }

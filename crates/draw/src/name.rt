@@ -1,8 +1,9 @@
 // The name of a file, written so that it is safe inside a picture whatever its bytes are: characters of UTF-8 that XML allows as they are, but for
 // the three that mean something to it, and any other byte as a question mark.
-ghost use Rattle.std.specs.Prelude.{◌≤◌, ◌<◌, length};
+ghost use Rattle.std.specs.Prelude.{◌≤◌, ◌<◌, length, IfOk};
 
 use crate::pen;
+use std::io;
 
 // How many bytes a character has by its first; 0 where none starts so, or it is not to be shown.
 fn size_by(first: u8) -> usize
@@ -86,30 +87,30 @@ fn character(s: &[u8]) -> usize
 }
 
 // A character of one byte or more.
-fn put(s: &[u8]) {
+fn put(rt: &impl Print, s: &[u8]) -> io::Result<()> {
     if s.len() == 0 {
-        return;
+        return Ok(());
     }
     match s[0] {
-        b'&' => pen::word(b"&amp;"),
-        b'<' => pen::word(b"&lt;"),
-        b'>' => pen::word(b"&gt;"),
-        _ => pen::word(s),
+        b'&' => pen::word(rt, b"&amp;"),
+        b'<' => pen::word(rt, b"&lt;"),
+        b'>' => pen::word(rt, b"&gt;"),
+        _ => pen::word(rt, s),
     }
 }
 
 // The character at the front, or a question mark for a byte that is none; how many bytes that is.
-fn write_first(s: &[u8]) -> usize
+fn write_first(rt: &impl Print, s: &[u8]) -> io::Result<usize>
     requires { 0 < length s.now }
-    ensures { (0 < result) × (result ≤ length s.now) × (result ≤ 4) }
+    ensures { IfOk result (λ n. (0 < n) × (n ≤ length s.now) × (n ≤ 4)) }
 {
     let n = character(s);
     if n == 0 {
-        pen::word(b"?");
-        return 1;
+        pen::word(rt, b"?")?;
+        return Ok(1);
     }
-    put(&s[..n]);
-    n
+    put(rt, &s[..n])?;
+    Ok(n)
 }
 
 // How much room a character takes, by its bytes.
@@ -123,16 +124,16 @@ fn columns(n: usize) -> usize
 }
 
 // A name, cut where it would be wider than 40 letters.
-pub fn write(name: &[u8]) {
+pub fn write(rt: &impl Print, name: &[u8]) -> io::Result<()> {
     let mut at: usize = 0;
     let mut wide: usize = 0;
     while at < name.len() {
         if 40 <= wide {
-            pen::word(b"...");
-            return;
+            return pen::word(rt, b"...");
         }
-        let n = write_first(&name[at..]);
+        let n = write_first(rt, &name[at..])?;
         wide += columns(n);
         at += n;
     }
+    Ok(())
 }

@@ -3,6 +3,7 @@ ghost use Rattle.std.specs.Prelude.{◌≤◌};
 
 use crate::place::{Axis, Sheet};
 use crate::{pen, place};
+use std::io;
 
 // A stretch of a line: the axis along which it runs, the line, and where it begins and ends.
 #[derive(Clone, Copy)]
@@ -14,28 +15,28 @@ pub struct Stretch {
 }
 
 // The names of the axis that a stretch crosses and of the one along which it runs, and the line between them.
-fn line(stretch: Stretch) {
+fn line(rt: &impl Print, stretch: Stretch) -> io::Result<()> {
     let along = stretch.along;
     match along {
         Axis::Up => {
-            pen::word(b", upright: x ");
-            pen::number(fields::number(stretch.line));
-            pen::word(b", y ");
+            pen::word(rt, b", upright: x ")?;
+            pen::number(rt, fields::number(stretch.line))?;
+            pen::word(rt, b", y ")
         }
         Axis::Across => {
-            pen::word(b", level: y ");
-            pen::number(fields::number(stretch.line));
-            pen::word(b", x ");
+            pen::word(rt, b", level: y ")?;
+            pen::number(rt, fields::number(stretch.line))?;
+            pen::word(rt, b", x ")
         }
     }
 }
 
 // Where a stretch runs, in words.
-pub fn tell(stretch: Stretch) {
-    line(stretch);
-    pen::number(fields::number(stretch.from));
-    pen::word(b" to ");
-    pen::number(fields::number(stretch.to));
+pub fn tell(rt: &impl Print, stretch: Stretch) -> io::Result<()> {
+    line(rt, stretch)?;
+    pen::number(rt, fields::number(stretch.from))?;
+    pen::word(rt, b" to ")?;
+    pen::number(rt, fields::number(stretch.to))
 }
 
 // The size of the marks: 2.1 mm in the smallest cell, and less than that of any room's number.
@@ -84,50 +85,61 @@ fn down(sheet: Sheet, stretch: Stretch) -> usize
 }
 
 // A mark on upright lines is read from the right.
-fn turn(sheet: Sheet, stretch: Stretch) {
+fn turn(rt: &impl Print, sheet: Sheet, stretch: Stretch) -> io::Result<()> {
     let along = stretch.along;
     match along {
         Axis::Up => {
-            pen::word(b" transform=\"rotate(-90 ");
-            pen::number(across(sheet, stretch));
-            pen::word(b" ");
-            pen::number(down(sheet, stretch));
-            pen::word(b")\"");
+            pen::word(rt, b" transform=\"rotate(-90 ")?;
+            pen::number(rt, across(sheet, stretch))?;
+            pen::word(rt, b" ")?;
+            pen::number(rt, down(sheet, stretch))?;
+            pen::word(rt, b")\"")
         }
-        Axis::Across => {}
+        Axis::Across => Ok(()),
     }
 }
 
 // The start of a mark, in a group of its own.
-pub fn open(class: &[u8], sheet: Sheet, stretch: Stretch) {
-    pen::word(b"<g class=\"");
-    pen::word(class);
-    pen::word(b"\"");
-    turn(sheet, stretch);
-    pen::word(b">");
+pub fn open(rt: &impl Print, class: &[u8], sheet: Sheet, stretch: Stretch) -> io::Result<()> {
+    pen::word(rt, b"<g class=\"")?;
+    pen::word(rt, class)?;
+    pen::word(rt, b"\"")?;
+    turn(rt, sheet, stretch)?;
+    pen::word(rt, b">")
 }
 
 // The ground of a mark by half its width, so that it is read on its own line.
-pub fn ground(sheet: Sheet, stretch: Stretch, half: usize, tint: &[u8])
+pub fn ground(
+    rt: &impl Print,
+    sheet: Sheet,
+    stretch: Stretch,
+    half: usize,
+    tint: &[u8],
+) -> io::Result<()>
     requires { half ≤ 14 }
 {
     let size = size_of(sheet);
-    pen::word(b"<rect");
-    pen::attribute(b"x", across(sheet, stretch) - half);
-    pen::attribute(b"y", down(sheet, stretch) - size / 2);
-    pen::attribute(b"width", 2 * half);
-    pen::attribute(b"height", size / 2 * 2);
-    pen::word(b" fill=\"");
-    pen::word(tint);
-    pen::word(b"\"/>");
+    pen::word(rt, b"<rect")?;
+    pen::attribute(rt, b"x", across(sheet, stretch) - half)?;
+    pen::attribute(rt, b"y", down(sheet, stretch) - size / 2)?;
+    pen::attribute(rt, b"width", 2 * half)?;
+    pen::attribute(rt, b"height", size / 2 * 2)?;
+    pen::word(rt, b" fill=\"")?;
+    pen::word(rt, tint)?;
+    pen::word(rt, b"\"/>")
 }
 
 // The start of a mark's text.
-pub fn open_text(sheet: Sheet, stretch: Stretch) {
-    pen::open_text(across(sheet, stretch), down(sheet, stretch), size_of(sheet));
+pub fn open_text(rt: &impl Print, sheet: Sheet, stretch: Stretch) -> io::Result<()> {
+    pen::open_text(
+        rt,
+        across(sheet, stretch),
+        down(sheet, stretch),
+        size_of(sheet),
+    )
 }
 
 // The end of a mark and of its text.
-pub fn close() {
-    pen::word(b"</text></g>\n");
+pub fn close(rt: &impl Print) -> io::Result<()> {
+    pen::word(rt, b"</text></g>\n")
 }

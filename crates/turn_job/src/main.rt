@@ -2,29 +2,27 @@
 // or the number of the refusal, or that the input is too long.
 #![tactic(auto)]
 
+use std::io;
+
 // What is written for two rooms and a job.
-fn answer(input: &[u8]) {
+fn answer(rt: &impl Print, input: &[u8]) -> io::Result<()> {
     if input.len() < 4 {
-        replies::refuse(1);
-        return;
+        return replies::refuse(rt, 1);
     }
     if 8196 < input.len() {
-        replies::too_long();
-        return;
+        return replies::too_long(rt);
     }
     let u = 256 * fields::wide(input[0]) + fields::wide(input[1]);
     let v = 256 * fields::wide(input[2]) + fields::wide(input[3]);
     let mut out = letters::page();
     let answer = tirunoiwa::tirunoiwa_turned(&input[4..], u, v, &mut out);
-    replies::show(answer, &out);
+    replies::show(rt, answer, &out)
 }
 
-fn main() {
+fn main(rt: HostRuntime) {
     let mut input = [0u8; 8197];
-    let n = io::read_full(0, &mut input);
-    if streams::unread() {
-        return;
+    match streams::read_full(&mut rt.stdin(), &mut input) {
+        Ok(n) => streams::unwritten(&rt, answer(&rt, &input[..n])),
+        Err(why) => streams::unread(&rt, why),
     }
-    answer(&input[..n]);
-    streams::unwritten();
 }

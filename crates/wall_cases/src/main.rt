@@ -1,66 +1,66 @@
 // The wall numbers of jobs on standard input, ten fields with a job each: the sheet and, room by room, its four walls, or that the walls run in a
 // circle, and how many upright walls have the number 2; then those of two stars made by hand.
 #![tactic(auto)]
+
 ghost use Rattle.std.specs.Prelude.{◌<◌};
 
 use jobs::Answer;
 use stars::Stars;
+use std::io;
 
 // A number, with a space before it.
-fn show_number(n: u16) {
-    io::write_all(1, b" ");
-    io::print_decimal(1, n as u64);
+fn show_number(rt: &impl Print, n: u16) -> io::Result<()> {
+    print!(rt; " {n}")
 }
 
 // The number of an upright wall, with a space before it.
-fn show_upright(number: walls::F1) {
-    show_number(number.0);
+fn show_upright(rt: &impl Print, number: walls::F1) -> io::Result<()> {
+    show_number(rt, number.0)
 }
 
 // The number of a level wall, with a space before it.
-fn show_level(number: walls::F2) {
-    show_number(number.0);
+fn show_level(rt: &impl Print, number: walls::F2) -> io::Result<()> {
+    show_number(rt, number.0)
 }
 
 // A vertex and its walls: left, right, lower, upper.
-fn show_sides<'a>(xs: &'a [u16], ys: &'a [u16], v: usize) {
-    io::print_decimal(1, v as u64);
+fn show_sides<'a>(rt: &impl Print, xs: &'a [u16], ys: &'a [u16], v: usize) -> io::Result<()> {
+    rt.print(v)?;
     let sides = walls::sides_at(xs, ys, v);
     let left = sides.left;
     let right = sides.right;
     let lower = sides.lower;
     let upper = sides.upper;
-    show_upright(left);
-    show_upright(right);
-    show_level(lower);
-    show_level(upper);
-    io::write_all(1, b"\n");
+    show_upright(rt, left)?;
+    show_upright(rt, right)?;
+    show_level(rt, lower)?;
+    show_level(rt, upper)?;
+    rt.write_all(b"\n")
 }
 
 // The walls of every room.
-fn show_rooms<'a>(xs: &'a [u16], ys: &'a [u16], count: usize)
+fn show_rooms<'a>(rt: &impl Print, xs: &'a [u16], ys: &'a [u16], count: usize) -> io::Result<()>
     requires { count < 256 }
 {
     let mut i: usize = 0;
     while i < count {
-        show_sides(xs, ys, 4 + i);
+        show_sides(rt, xs, ys, 4 + i)?;
         i += 1;
     }
+    Ok(())
 }
 
 // The width and height of the sheet.
-fn show_sheet<'a>(xs: &'a [u16], ys: &'a [u16]) {
+fn show_sheet<'a>(rt: &impl Print, xs: &'a [u16], ys: &'a [u16]) -> io::Result<()> {
     let sheet = walls::sheet_at(xs, ys);
-    io::write_all(1, b" ");
-    io::print_decimal(1, sheet.width as u64);
-    io::write_all(1, b" ");
-    io::print_decimal(1, sheet.height as u64);
-    io::write_all(1, b"\n");
+    let width = sheet.width;
+    let height = sheet.height;
+    println!(rt; " {width} {height}")
 }
 
 // A name, and the walls of held stars.
-fn show_stars(name: &[u8], stars: Stars) {
-    io::write_all(1, name);
+fn show_stars(rt: &impl Print, name: &[u8], stars: Stars) -> io::Result<()> {
+    rt.write_all(name)?;
     let sizes = stars::least::none_told();
     let walls = walls::walls_of(
         &stars.ends,
@@ -77,29 +77,23 @@ fn show_stars(name: &[u8], stars: Stars) {
             let levels = walls.levels;
             let xs = uprights.0;
             let ys = levels.0;
-            show_sheet(&xs, &ys);
-            show_rooms(&xs, &ys, fields::wide(stars.count));
+            show_sheet(rt, &xs, &ys)?;
+            show_rooms(rt, &xs, &ys, fields::wide(stars.count))
         }
-        walls::Answer::Circle => {
-            io::write_all(1, b" circle\n");
-        }
+        walls::Answer::Circle => rt.write_all(b" circle\n"),
     }
 }
 
 // A name, and the walls of a job; or the number of the test that it fails before it has walls.
-fn show(name: &[u8], job: &[u8]) {
+fn show(rt: &impl Print, name: &[u8], job: &[u8]) -> io::Result<()> {
     let read = jobs::read_job(job);
     let answer = read.answer;
     let stars = read.stars;
     match answer {
-        Answer::Passed => {
-            show_stars(name, stars);
-        }
+        Answer::Passed => show_stars(rt, name, stars),
         Answer::Refused(k) => {
-            io::write_all(1, name);
-            io::write_all(1, b" refused ");
-            io::print_decimal(1, k as u64);
-            io::write_all(1, b"\n");
+            rt.write_all(name)?;
+            println!(rt; " refused {k}")
         }
     }
 }
@@ -192,7 +186,7 @@ fn walls_numbered(numbers: &[u16; 128], marks: &[u16; 128], number: u16) -> u64 
 }
 
 // How many upright walls of a job have the number 2.
-fn show_twos(job: &[u8]) {
+fn show_twos(rt: &impl Print, job: &[u8]) -> io::Result<()> {
     let read = jobs::read_job(job);
     let stars = read.stars;
     let mut marks = [0u16; 128];
@@ -209,9 +203,8 @@ fn show_twos(job: &[u8]) {
     );
     let uprights = walls.uprights;
     let numbers = uprights.0;
-    io::write_all(1, b"upright walls numbered 2: ");
-    io::print_decimal(1, walls_numbered(&numbers, &marks, 2));
-    io::write_all(1, b"\n");
+    let many = walls_numbered(&numbers, &marks, 2);
+    println!(rt; "upright walls numbered 2: {many}")
 }
 
 // Held stars with one room, whose neighbour on the right is given.
@@ -235,22 +228,23 @@ fn one_room(east: u16) -> Stars {
 }
 
 // The walls of the jobs on standard input, a field each, as many as are shown.
-fn show_jobs(input: &[u8]) {
+fn show_jobs(rt: &impl Print, input: &[u8]) -> io::Result<()> {
     let mut at: usize = 0;
     let mut i: usize = 0;
     while i < 10 {
         let job = fields::value_at(input, at);
-        show(b"job", job);
-        show_twos(job);
+        show(rt, b"job", job)?;
+        show_twos(rt, job)?;
         at = fields::after_at(input, at);
         i += 1;
     }
+    Ok(())
 }
 
-fn main() {
+fn main(rt: HostRuntime) -> io::Result<()> {
     let mut input = [0u8; 2048];
-    let n = io::read_full(0, &mut input);
-    show_jobs(&input[..n]);
-    show_stars(b"one room, held", one_room(3));
-    show_stars(b"one room, neighbour 5", one_room(5));
+    let n = streams::read_full(&mut rt.stdin(), &mut input)?;
+    show_jobs(&rt, &input[..n])?;
+    show_stars(&rt, b"one room, held", one_room(3))?;
+    show_stars(&rt, b"one room, neighbour 5", one_room(5))
 }
