@@ -1,5 +1,5 @@
 /*
- * Tirunoiwa, the zone planner, for C and C++. Link target/staticlib/libtirunoiwa.a, which `rt staticlib tirunoiwa` writes (x86-64 Linux).
+ * Tirunoiwa, the zone planner, for C and C++. Link target/staticlib/libtirunoiwa.a, which `bin/library` makes (x86-64 Linux).
  *
  * No state is kept between two calls: each reads a job's bytes anew, so calls may run at once in several threads.
  *

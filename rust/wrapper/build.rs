@@ -1,4 +1,4 @@
-//! Names the proved static library, which `rt staticlib tirunoiwa` writes.
+//! Names the proved static library, which `bin/library` makes.
 
 use std::path::Path;
 
@@ -9,7 +9,7 @@ fn main() {
     println!("cargo:rerun-if-changed={}", archive.display());
     if !archive.exists() {
         panic!(
-            "there is no libtirunoiwa.a yet: run `rt staticlib tirunoiwa` at the project's root"
+            "there is no libtirunoiwa.a yet: run `bin/library` at the project's root"
         );
     }
     println!("cargo:rustc-link-search=native={}", folder.display());

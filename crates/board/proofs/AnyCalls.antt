@@ -18,7 +18,7 @@ use Rattle.board.specs.declared.Board.{Board as HeldBoard}
 use Rattle.board.specs.declared.Reply.{Reply as Said}
 use Rattle.board.specs.declared.Reply.TheVariants.{Refused, Done, Wrote}
 use Rattle.board.specs.declared.Step.{Step as Handed}
-use Rattle.board.specs.Boards.{board_for, no_board, board_of, reply_of, handed, as_rules, Outcome, outcome, Tells}
+use Rattle.board.specs.Boards.{board_for, board_of, reply_of, handed, as_rules, Outcome, outcome, Tells}
 use Rattle.board.specs.Reach.{Reached, at_first, called}
 use Rattle.board.proofs.Corollaries.{saying, saying_back}
 use Rattle.board.proofs.Given.{at_first as holds_nothing, board_holds, register_is}

@@ -1,5 +1,6 @@
 // The board: load, questions, writing. It goes in by value and comes back from each call.
 #![tactic(auto)]
+
 ghost use Rattle.std.specs.Prelude.{◌≡◌, []};
 ghost use Rattle.floor.specs.Calls.{load, loads, turns, narrows, rectangle, touches, writes_job, writes_plan, writes_register, slices, writes_cuts};
 ghost use Rattle.drawing.specs.declared.Answer.TheVariants.{Refused};

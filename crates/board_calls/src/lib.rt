@@ -1,6 +1,7 @@
 // Each call of a board by itself, exported, so that the stack it takes can be read off the built code. A board goes in by value and comes back, as it does
 // between Rattle's own functions.
 #![tactic(auto)]
+
 use board::{Board, Reply, Step};
 use drawing::{Plan, Touch};
 use registers::Register;

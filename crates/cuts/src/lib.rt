@@ -1,5 +1,6 @@
 // Which floors can be cut straight: the tree of cuts of a plan, written; no recursion, a stack of rectangles that wait.
 #![tactic(auto)]
+
 ghost use Rattle.std.specs.Prelude.{◌≡◌, ◌+◌, ◌-◌, ◌≤◌, ◌<◌, min, length, take, replicate};
 ghost use Rattle.std.proofs.lemmas.List.Edits.{sets};
 ghost use Rattle.floor.specs.Cuts.{is_tree, rooms_of, inner};

@@ -1,5 +1,6 @@
 // Plans: rectangles by wall numbers, the drawing test, tests 7, 18 and 9 of held stars with their least sizes, and a plan's bytes.
 #![tactic(auto)]
+
 ghost use Rattle.std.specs.Prelude.{◌≡◌, ◌&&◌, ◌+◌, ◌<◌, leb, get_or, replicate};
 ghost use Rattle.floor.specs.Jobs.{sized_job};
 ghost use Rattle.floor.specs.Plans.{nowhere, drawable, write_plan};

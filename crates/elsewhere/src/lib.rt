@@ -1,5 +1,6 @@
 // Plans drawn elsewhere: whether a plan's bytes are those of a plan that is good for a job, in time by the job's rooms and pairs.
 #![tactic(auto)]
+
 ghost use Rattle.std.specs.Prelude.{◌≡◌};
 ghost use Rattle.floor.specs.Jobs.{sized_job};
 ghost use Rattle.floor.specs.Foreign.{read_plan, good_for, judge_plan, judged};

@@ -1,5 +1,6 @@
 // Fields: one tag byte, a two-byte length (high byte first), then the value, read and written at any place of some bytes.
 #![tactic(auto)]
+
 ghost use Rattle.std.specs.Prelude.{◌≡◌, ◌+◌, ◌*◌, ◌-◌, ◌<◌, length, get_or, drop};
 ghost use Rattle.floor.specs.Lists.{same_numbers};
 ghost use Rattle.floor.specs.Fields.{read_field, value_of, rest_of};

@@ -1,5 +1,4 @@
-// The reader: some bytes and a place in them. The checker covers no function over a struct that holds a slice, so `start`,
-// `next` and `read_at` are proved by hand; the work is `field_at`'s, and what calls `read_at` is covered.
+// The reader: some bytes and a place in them. It is thin: the work is `field_at`'s.
 ghost use Rattle.std.specs.Prelude.{◌≡◌, length, drop};
 ghost use Rattle.floor.specs.Fields.{read_field};
 ghost use Rattle.fields.specs.Found.{found, Stands};

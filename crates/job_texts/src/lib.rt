@@ -1,5 +1,6 @@
 // A job as text that staff write by hand: made of a job's bytes, and read back into them.
 #![tactic(auto)]
+
 ghost use Rattle.std.specs.Prelude.{◌≡◌, ◌≤◌, length};
 ghost use Rattle.std.proofs.lemmas.List.Edits.{sets};
 ghost use Rattle.floor.specs.Jobs.{sized_job, write_sized};

@@ -9,9 +9,9 @@ use borrow.Author.Tests.{lt-ltb, le-ltb, not-true, not-false}
 use lib.Dec.{ltb}
 use lib.ListN.{length, get_or, length-set}
 use Rattle.floor.proofs.Lists.Laws.{no_false}
-use Rattle.floor.specs.Jobs.{Job, Sizes, SizedJob, sized_job}
-use Rattle.floor.specs.Walls.{upright, level, low, at}
-use Rattle.floor.specs.Plans.{Rect, Plan, nowhere, plan_of, rect_of, overlap, Answer, refused, held, past, test18}
+use Rattle.floor.specs.Jobs.{Sizes, SizedJob, sized_job}
+use Rattle.floor.specs.Walls.{upright, low, at}
+use Rattle.floor.specs.Plans.{Plan, nowhere, plan_of, rect_of, overlap, Answer, refused, held, past, test18}
 use Rattle.floor.specs.Narrow.{pair, nothing, narrower}
 use Rattle.stars.specs.Held.{job_in, job_of}
 use Rattle.walls.specs.Numbers.{numbers_in, width_in}

@@ -2,7 +2,7 @@
 use Rattle.std.proofs.Common.{◌≡◌, ℕ, suc, ◌+◌, ◌-◌, ◌%◌, ◌^◌, ◌<◌, ◌≤◌, List, [], ◌∷◌, ◌++◌, map, length, get_or, take, drop, replicate, sym, refl, ◌∙◌, arith, length-append, drop_of_length-le, drop-cons}
 use mathlib.Core.List.{Memᴰ}
 use Rattle.floor.specs.Lists.{sum}
-use Rattle.floor.specs.Fields.{broken, field, read_field}
+use Rattle.floor.specs.Fields.{field, read_field}
 use Rattle.floor.specs.Plans.{Answer}
 use Rattle.floor.specs.Calls.{load}
 use Rattle.floor.specs.Totals.{Jobs, unwrap, refusals, over, measures, figures, refuses_all, tells, season}

@@ -1,5 +1,6 @@
 // The season's totals: what many jobs, each in a wrapper, come to together.
 #![tactic(auto)]
+
 ghost use Rattle.std.specs.Prelude.{◌≡◌, ◌≤◌, ◌++◌, length, drop, replicate};
 ghost use Rattle.floor.specs.Calls.{load};
 ghost use Rattle.floor.specs.Totals.{refuses_all, season, season_in};

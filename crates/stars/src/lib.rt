@@ -1,5 +1,6 @@
 // Stars: the kinds, the tests of one star's bytes, and the stars of a job and its least sizes as they are held.
 #![tactic(auto)]
+
 pub mod kinds; // kinds.rt: each kind's opposite and each frame side's one kind
 pub mod star; // star.rt: tests 4 and 5 of one star's bytes
 pub mod held; // held.rt: the held stars read, and test 6 of them

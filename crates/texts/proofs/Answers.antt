@@ -10,7 +10,7 @@ use lib.ListN.{length}
 use lib.Seq.{sets}
 use Rattle.floor.specs.Jobs.{SizedJob}
 use Rattle.floor.specs.Plans.{Plan, Answer, refused, held}
-use Rattle.floor.specs.Registers.{Partition, register}
+use Rattle.floor.specs.Registers.{Partition}
 use Rattle.floor.specs.Cuts.{plan_tree}
 use Rattle.floor.specs.Calls.{load}
 use Rattle.floor.specs.Calls.Sound.{Sound}
@@ -22,8 +22,7 @@ use Rattle.drawing.specs.declared.Plan.{Plan as HeldPlan}
 use Rattle.drawing.specs.Rects.{plan_from, plan_in}
 use Rattle.drawing.specs.Drawn.{said}
 use Rattle.drawing.proofs.Corollaries.{plan_held}
-use Rattle.registers.specs.declared.Register.{Register}
-use Rattle.registers.specs.Kept.{walls_in, register_in}
+use Rattle.registers.specs.Kept.{walls_in}
 use Rattle.registers.proofs.Corollaries.{walls_held}
 use Rattle.board.specs.declared.Planned.{Planned}
 use Rattle.board.specs.Boards.{held_job, Plans}

@@ -12,10 +12,10 @@ use lib.Seq.{drop-drop, get_or-drop, take-append_seam}
 use Rattle.floor.specs.Fields.{Bytes, write_field}
 use Rattle.floor.proofs.Fields.Laws.{bytes_behind}
 use Rattle.floor.specs.Jobs.{SizedJob}
-use Rattle.floor.specs.Plans.{Plan, refused}
+use Rattle.floor.specs.Plans.{Plan}
 use Rattle.floor.specs.Quoted.{plain}
 use Rattle.floor.specs.Cuts.{Direction, upright, level, Tree, leaf, cut, way_byte, write_tree, plan_tree}
-use Rattle.floor.specs.Calls.{empty, holding, refusal, wrote, refuse, writes, writes_tree, writes_cuts, step}
+use Rattle.floor.specs.Calls.{empty, holding, refusal, wrote, refuse, writes, writes_tree, step}
 use Rattle.floor.proofs.Calls.Bytes.{limits}
 use Rattle.floor.specs.Calls.Sound.{Sound}
 use Rattle.floor.proofs.Calls.Sliced.{so_many_bytes, cuts_bytes}

@@ -8,7 +8,7 @@ use borrow.Author.Tests.{le-leb, lt-leb}
 use lib.Dec.{leb}
 use lib.ListN.{length, get_or, drop, drop_of_length-le, length-append}
 use lib.Seq.{sets, drop-cons}
-use Rattle.floor.specs.Plans.{Rect, nowhere, Touch, clear, wall, touch_of, refused, held, write_plan}
+use Rattle.floor.specs.Plans.{Rect, nowhere, touch_of, refused, held}
 use Rattle.floor.proofs.Floor.Touches.{touch_fair}
 use Rattle.floor.specs.Calls.{load}
 use Rattle.floor.proofs.Calls.Sound.{load_held}
@@ -27,7 +27,7 @@ use Rattle.drawing.proofs.Corollaries.{many_rects}
 use Rattle.board.specs.declared.Planned.{Planned}
 use Rattle.board.specs.Boards.{held_job, Plans}
 use Rattle.letters.specs.Puts.{Puts}
-use Rattle.letters.proofs.Rows.{both_puts, named, none_put, front_put}
+use Rattle.letters.proofs.Rows.{both_puts, none_put, front_put}
 use Rattle.texts.proofs.Rows.{one_short, six_short}
 use Rattle.texts.proofs.Plans.{vertex_at}
 

@@ -1,5 +1,6 @@
 // What is printed of an answer, as text in a lent buffer.
 #![tactic(auto)]
+
 ghost use Rattle.std.specs.Prelude.{◌≡◌, ◌+◌, ◌≤◌, length, replicate};
 ghost use Rattle.std.proofs.lemmas.List.Edits.{sets};
 ghost use Rattle.floor.specs.Plans.{refused};
@@ -10,7 +11,7 @@ ghost use Rattle.drawing.specs.Rects.{plan_from};
 mod line; // line.rt: numbers on one line
 mod plan; // plan.rt: a line for each rectangle
 mod doors; // doors.rt: a line for each contact of two rooms
-mod walls; // walls.rt: a line for each wall
+mod wall_lines; // wall_lines.rt: a line for each wall
 mod trees; // trees.rt: a line for each cut and each room at a leaf
 
 // The number of a refusal, as text at the front; how many bytes that takes is handed back.
@@ -96,7 +97,7 @@ pub fn list_walls(input: &[u8], out: &mut [u8; 8192]) -> usize
     let answer = planned.answer;
     match answer {
         drawing::Answer::Drawn => {
-            walls::put_walls(&register.rows, register.uprights, register.many, out, 0)
+            wall_lines::put_walls(&register.rows, register.uprights, register.many, out, 0)
         }
         drawing::Answer::Refused(k) => list_refusal(k, out),
     }

@@ -1,6 +1,6 @@
 -- The answer to a job and a plan drawn elsewhere, as one number, as the code comes by it. Assumes nothing.
 use Prim.Native.Nat.{ℕ, ◌+◌}
-use mathlib.Core.Path.{◌≡◌, sym, ◌∙◌}
+use mathlib.Core.Path.{◌≡◌}
 use mathlib.Core.Bool.{Bool, true, false}
 use mathlib.Core.List.{List}
 use Rattle.floor.specs.Foreign.{judged}

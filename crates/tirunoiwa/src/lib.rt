@@ -1,5 +1,6 @@
 // The planner for other programs: plain functions over a job's bytes. No board is kept between two calls.
 #![tactic(auto)]
+
 ghost use Rattle.std.specs.Prelude.{◌≡◌, []};
 ghost use Rattle.floor.specs.Calls.{empty, loads, step};
 ghost use Rattle.floor.specs.Tracker.{plan_of_job, walls_of_job, cuts_of_job, turned_of_job, narrowed_of_job, touch_of_job, star_of_job, code};

@@ -1,5 +1,6 @@
 // Turning: a contact of the held stars turned where it stands, over slices of them. Two kinds change, and no entry moves.
 #![tactic(auto)]
+
 ghost use Rattle.std.specs.Prelude.{◌≡◌};
 ghost use Rattle.stars.specs.Held.{job_in};
 ghost use Rattle.turns.specs.InPlace.{swing_said, swing_of, turned_in};

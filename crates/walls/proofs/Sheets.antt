@@ -1,5 +1,5 @@
 -- The walls read side by side, and the sheet. Assumes nothing.
-use mathlib.Core.Path.{◌≡◌, refl, sym, ◌∙◌}
+use mathlib.Core.Path.{◌≡◌, refl, sym}
 use mathlib.Core.Bool.{not, true, false}
 use mathlib.Core.Option.{Option, none, some}
 use mathlib.Core.List.{List}

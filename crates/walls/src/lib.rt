@@ -1,5 +1,6 @@
 // The walls of held stars, with their rooms' least sizes, and their numbers: passes over the rules, until every rule is met or a number is too large.
 #![tactic(auto)]
+
 ghost use Rattle.std.specs.Prelude.{◌≡◌, true, ◌&&◌, ◌+◌, ◌*◌, ◌≤◌, length, get_or, replicate};
 ghost use Rattle.floor.specs.Jobs.{test2};
 ghost use Rattle.floor.specs.Walls.{upright, rules};

@@ -12,7 +12,7 @@ const RETURN: i64 = 8;
 /// A function that calls nothing may use so many bytes below its stack pointer.
 const RED_ZONE: i64 = 128;
 
-/// Large frames are taken a page at a time.
+/// Large frames are taken by pieces, each no larger than a page.
 const PAGE: i64 = 4096;
 
 #[derive(Clone, Debug, PartialEq)]
@@ -128,8 +128,11 @@ impl Walk<'_> {
         let Some(state) = self.states[place] else {
             return Ok(());
         };
-        if let Some(pages) = self.probes(place)? {
-            return self.probe_loop(place, state, pages);
+        if let Some(size) = self.probes(place)? {
+            return self.probe_loop(place, state, size);
+        }
+        if let Some((size, deepest)) = self.buffer(place)? {
+            return self.buffer_loop(place, state, size, deepest);
         }
         let instruction = &self.function.code[place];
         let (name, operands) = parts_of(&instruction.text);
@@ -275,15 +278,17 @@ impl Walk<'_> {
     }
 
     /// A frame of many pages is taken in a loop that touches each, down to where a register was set before it:
-    /// `mov %rsp,%r11; sub $N,%r11` or `lea -N(%rsp),%r11`, then `sub $0x1000,%rsp; movq $0x0,(%rsp); cmp %r11,%rsp; jne` back to the `sub`.
+    /// `mov %rsp,%r11; sub $N,%r11` or `lea -N(%rsp),%r11`, then `sub $PIECE,%rsp; movq $0x0,(%rsp); cmp %r11,%rsp; jne` back to the `sub`.
     fn probes(&self, place: usize) -> Result<Option<i64>, String> {
         let code = &self.function.code;
         let text = |i: usize| code.get(i).map_or("", |x: &Instruction| x.text.as_str());
         let (compare, ends) = parts_of(text(place + 2));
         let (jump, to) = parts_of(text(place + 3));
-        let head = parts_of(text(place)) == ("sub", vec!["$0x1000", "%rsp"]);
+        let Some(piece) = piece_of(text(place)) else {
+            return Ok(None);
+        };
         let back = jump == "jne" && target_of(&to) == Some(code[place].at);
-        if !head || !back || compare != "cmp" || ends.get(1) != Some(&"%rsp") {
+        if !back || compare != "cmp" || ends.get(1) != Some(&"%rsp") {
             return Ok(None);
         }
         let end = ends[0];
@@ -296,9 +301,71 @@ impl Walk<'_> {
             _ => None,
         };
         match size {
-            Some(size) if size > 0 && size % PAGE == 0 => Ok(Some(size)),
+            Some(size) if size > 0 && size % piece == 0 => Ok(Some(size)),
             _ => self.fault(place, "a frame of unknown size is taken"),
         }
+    }
+
+    /// A buffer of known size within a block of code, and how far the loop that touches it may go down:
+    /// `mov %rsp,%rsi; sub $N,%rsi`, then `cmp %rsp,%rsi; jge` past the loop `xorq $0x0,(%rsp); sub $PIECE,%rsp; cmp %rsp,%rsi; jl`, and `mov %rsi,%rsp`.
+    fn buffer(&self, place: usize) -> Result<Option<(i64, i64)>, String> {
+        let code = &self.function.code;
+        let parts = |i: usize| {
+            parts_of(
+                code.get(place + i)
+                    .map_or("", |x: &Instruction| x.text.as_str()),
+            )
+        };
+        let jumps = |i: usize, name: &str, to: usize| {
+            let (jump, where_to) = parts(i);
+            jump == name && code.get(place + to).map(|x| x.at) == target_of(&where_to)
+        };
+        let ("mov", from) = parts(0) else {
+            return Ok(None);
+        };
+        let &[pointer, end] = from.as_slice() else {
+            return Ok(None);
+        };
+        let compared = ("cmp", vec!["%rsp", end]);
+        if pointer != "%rsp" || parts(2) != compared || parts(6) != compared {
+            return Ok(None);
+        }
+        let whole = jumps(3, "jge", 8)
+            && parts(4) == ("xorq", vec!["$0x0", "(%rsp)"])
+            && jumps(7, "jl", 4)
+            && parts(8) == ("mov", vec![end, "%rsp"]);
+        let size = match parts(1) {
+            ("sub", o) if o.len() == 2 && o[1] == end => number(o[0]),
+            _ => None,
+        };
+        match (
+            whole,
+            size,
+            code.get(place + 5).and_then(|x| piece_of(&x.text)),
+        ) {
+            (true, Some(size), Some(piece)) if size > 0 && size % 8 == 0 => {
+                Ok(Some((size, (size + piece - 1) / piece * piece)))
+            }
+            _ => self.fault(place, "a buffer of unknown size is taken"),
+        }
+    }
+
+    fn buffer_loop(
+        &mut self,
+        place: usize,
+        state: State,
+        size: i64,
+        deepest: i64,
+    ) -> Result<(), String> {
+        let at = |more: i64| State {
+            height: state.height + more,
+            ..state
+        };
+        self.deepest = self.deepest.max(at(deepest).height);
+        for i in place + 1..place + 9 {
+            self.states[i] = Some(at(deepest));
+        }
+        self.fall(place + 8, at(size))
     }
 
     fn probe_loop(&mut self, place: usize, state: State, size: i64) -> Result<(), String> {
@@ -382,6 +449,16 @@ fn moved(name: &str, operands: &[&str], state: State) -> Option<State> {
         (_, [.., to]) if is_pointer(to) => None,
         (_, [.., to]) if is_base(to) => Some(lost),
         _ => Some(state),
+    }
+}
+
+/// The piece by which a loop takes a frame.
+fn piece_of(text: &str) -> Option<i64> {
+    match parts_of(text) {
+        ("sub", o) if o.len() == 2 && o[1] == "%rsp" => {
+            number(o[0]).filter(|n| (8..=PAGE).contains(n) && n % 8 == 0)
+        }
+        _ => None,
     }
 }
 

@@ -166,6 +166,52 @@ fn large_frames() {
         &left,
     ];
     refused(frame(&unknown.concat()), "unknown size");
+    // by pieces smaller than a page, a whole number of them
+    let by_pieces = |end: &'static str| {
+        [
+            "mov    %rsp,%r11",
+            end,
+            "sub    $0xc00,%rsp",
+            "movq   $0x0,(%rsp)",
+            "cmp    %r11,%rsp",
+            "jne    2 <f+0x2>",
+            "add    $0x6000,%rsp",
+            "ret",
+        ]
+    };
+    assert_eq!(own(&by_pieces("sub    $0x6000,%r11")), 8 + 0x6000);
+    refused(frame(&by_pieces("sub    $0x6400,%r11")), "unknown size");
+}
+
+#[test]
+fn buffers() {
+    // the loop that touches it goes down by whole pieces, past its end
+    let taken = |size: &'static str, past: &'static str| {
+        [
+            "push   %rbp",
+            "mov    %rsp,%rbp",
+            "mov    %rsp,%rsi",
+            size,
+            "cmp    %rsp,%rsi",
+            past,
+            "xorq   $0x0,(%rsp)",
+            "sub    $0xc00,%rsp",
+            "cmp    %rsp,%rsi",
+            "jl     6 <f+0x6>",
+            "mov    %rsi,%rsp",
+            "mov    %rbp,%rsp",
+            "pop    %rbp",
+            "ret",
+        ]
+    };
+    let past = "jge    a <f+0xa>";
+    assert_eq!(own(&taken("sub    $0x90,%rsi", past)), 16 + 0xc00);
+    assert_eq!(own(&taken("sub    $0xc08,%rsi", past)), 16 + 0x1800);
+    refused(frame(&taken("sub    %rdi,%rsi", past)), "unknown size");
+    refused(
+        frame(&taken("sub    $0x90,%rsi", "jge    b <f+0xb>")),
+        "unknown size",
+    );
 }
 
 #[test]

@@ -1,4 +1,3 @@
-use Prim.Native.Nat.{◌-◌}
 use mathlib.Core.Path.{refl}
 use Rattle.fields.proofs.Same.{same_length, same_false, same_next, same_done}
 use borrow.Author.Rules.{rules}

@@ -19,7 +19,7 @@ use Rattle.floor.specs.Walls.{upright, level, at, job_numbers, Numbers, rules}
 use Rattle.floor.proofs.Walls.Walk.{unique}
 use Rattle.floor.proofs.Walls.Rules.{numbers_are, to_vertex}
 use Rattle.floor.specs.Plans.{Plan, plan_of, refused, held, drawn, draw_read, drawable, past, test18, tested, Planned, Fits, Over}
-use Rattle.floor.proofs.Plans.Held.{not_held, one_number, drawn_held, drawn_again, past_true, past_false, drawn_is, fits_or, fits_passes}
+use Rattle.floor.proofs.Plans.Held.{not_held, one_number, past_true, past_false, drawn_is, fits_or, fits_passes}
 use Rattle.floor.proofs.Plans.Held.{over_fails, width_bound, height_bound}
 use Rattle.floor.specs.Floor.{Names}
 use Rattle.floor.proofs.Floor.Elsewhere.{Ours}
@@ -29,7 +29,7 @@ use Rattle.floor.proofs.Turns.Always.{turned_ours, turned_draws}
 use Rattle.floor.specs.Calls.{holding, turns, refusal, done, step, refuse, after}
 use Rattle.floor.specs.Calls.Sound.{Sound}
 use Rattle.floor.proofs.Calls.Sound.{sound_good, sound_roomy}
-use Rattle.floor.proofs.Calls.Exact.{turned_exactly, turn_drawn}
+use Rattle.floor.proofs.Calls.Exact.{turn_drawn}
 
 -- where the test says so, the two numbers are two rooms in contact
 contact_of : (j : Job) (u v : ℕ) → in_contact j u v ≡ true → InContact j u v

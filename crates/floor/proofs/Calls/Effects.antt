@@ -8,7 +8,7 @@ use Rattle.std.proofs.Math.Option.{Option, none, some}
 use Rattle.floor.specs.Fields.{Bytes}
 use Rattle.floor.specs.Lists.{all, any}
 use Rattle.floor.proofs.Lists.Laws.{no_false, and_right, any_mem, get_or_mem}
-use Rattle.floor.specs.Jobs.{Job, Sizes, SizedJob, one_cell, Room, size_of, size_ok, larger, test17, write_sized}
+use Rattle.floor.specs.Jobs.{Sizes, SizedJob, one_cell, Room, size_of, size_ok, larger, test17, write_sized}
 use Rattle.floor.specs.Jobs.Written.{Counts}
 use Rattle.floor.proofs.Jobs.Written.{read_write_job, write_read_job}
 use Rattle.floor.specs.Plans.{Plan, Answer, refused, held, drawn, write_plan}

@@ -12,7 +12,7 @@ use Rattle.floor.proofs.Jobs.Facts.{passes_of}
 use Rattle.floor.proofs.Jobs.Written.{read_test2}
 use Rattle.floor.specs.Walls.{Numbers, upright, level, rules, at}
 use Rattle.floor.proofs.Walls.Rules.{numbers_are, to_vertex}
-use Rattle.floor.specs.Plans.{Plan, plan_of, drawable, refused, held, test18, tested}
+use Rattle.floor.specs.Plans.{Plan, plan_of, drawable, held, test18, tested}
 use Rattle.floor.proofs.Plans.Held.{past_true, past_false, drawn_is, width_bound, height_bound}
 use Rattle.floor.specs.Floor.{GoodPlan, Roomy}
 use Rattle.floor.proofs.Floor.Tested.{good_drawable}

@@ -4,7 +4,7 @@ use Rattle.std.proofs.Math.Path.{refl, fun_ext}
 use Rattle.std.proofs.Common.{sym, ap, ◌∙◌, inl, inr, le-leb}
 use Rattle.std.proofs.Math.Bool.{false}
 use Rattle.std.proofs.Math.Option.{Option, none, some}
-use mathlib.Core.List.{List, ◌∷◌, ◌++◌, Memᴰ, []}
+use mathlib.Core.List.{List, ◌∷◌, ◌++◌, Memᴰ}
 use Rattle.floor.specs.Lists.{any}
 use Rattle.floor.proofs.Lists.Laws.{and_both, Apart, apart_at}
 use Rattle.floor.specs.Fields.{Field, broken, field, read_field, after_fields}
@@ -17,7 +17,7 @@ use Rattle.floor.proofs.Jobs.Facts.{room_is, labelling_passes, passes_of, passin
 use Rattle.floor.specs.Walls.{Numbers, Axis, upright, level, rules, at, job_numbers}
 use Rattle.floor.proofs.Walls.Walk.{unique, numbers_respects}
 use Rattle.floor.proofs.Walls.Rules.{numbered, numbers_are, to_vertex}
-use Rattle.floor.specs.Plans.{Plan, plan_of, drawable, Answer, held, past, tested, planned, drawn, draw_read, Numbered, refused, test18}
+use Rattle.floor.specs.Plans.{Plan, plan_of, drawable, Answer, held, past, tested, planned, drawn, draw_read, Numbered, test18}
 use Rattle.floor.specs.Plans.Held.{Drawn}
 use Rattle.floor.proofs.Plans.Held.{drawn_held, drawn_again}
 use Rattle.floor.proofs.Turns.Swing.{named_front}

@@ -31,7 +31,7 @@ use Rattle.floor.proofs.Turns.Restore.{turnable, turned_keeps}
 use Rattle.floor.specs.Narrow.{stacked, narrower, turn_narrows, first_pair, Search, nothing, pair, turn_found, narrow_once, onward, rounds, narrowed, Slim}
 use Rattle.floor.specs.Calls.{load, Board, empty, holding, Call, loads, turns, narrows, rectangle, writes_job, writes_plan, Reply, wrote, refuse, BoardsAlike}
 use Rattle.floor.specs.Calls.{StepsAlike, both_empty, both_hold, after, asks, writes, step, run, touches, writes_register, slices, writes_cuts, writes_tree}
-use Rattle.floor.specs.Calls.{Step, made, slims}
+use Rattle.floor.specs.Calls.{made, slims}
 use Rattle.floor.specs.Calls.Sound.{Sound, SoundBoard}
 use Rattle.floor.proofs.Calls.Sound.{sound_good, once_sound, step_sound}
 use Rattle.floor.proofs.Calls.Exact.{kind_found}

@@ -10,7 +10,7 @@ use Rattle.floor.specs.Lists.{pairwise}
 use Rattle.floor.proofs.Lists.Laws.{no_false, and_parts, and_both, or_cases, all_mem}
 use Rattle.floor.specs.Plans.{Rect}
 use Rattle.floor.specs.Registers.{Partition, earlier}
-use Rattle.floor.specs.Cuts.{Direction, upright, level, begin, end, low_box, high_box, Tree, leaf, Choice, no_cut, takes, choice, both, span, way_byte}
+use Rattle.floor.specs.Cuts.{Direction, upright, level, begin, end, low_box, high_box, Tree, Choice, no_cut, takes, choice, both, span, way_byte}
 use Rattle.floor.proofs.Cuts.Grown.{low_span, high_span}
 use Rattle.floor.specs.Cuts.ByWalls.{other, spans_box, wall_cut, wall_choice, leaf_of, divided_by, grow_by, tree_by}
 

@@ -10,7 +10,7 @@ use Rattle.floor.specs.Jobs.Facts.{Passes}
 use Rattle.floor.proofs.Jobs.Facts.{star_at}
 use Rattle.floor.specs.Plans.{Plan, rect_of, drawable}
 use Rattle.floor.specs.Floor.{Cell, Shares, Joined, Complete, Inside, GoodPlan}
-use Rattle.floor.proofs.Floor.Sides.{Side, up, left, down, right, next, opp, prev, Piece, side, size, Known, Meets, Contact, Fits, Good}
+use Rattle.floor.proofs.Floor.Sides.{Side, up, left, down, right, next, opp, prev, Piece, size, Known, Meets, Contact, Fits, Good}
 use Rattle.floor.proofs.Floor.Whole.{flip}
 use Rattle.floor.proofs.Floor.Read.{num, number, piece, number_piece, few_sides, stars_of, known_vertex, known_piece, entry_ok}
 use Rattle.floor.proofs.Floor.Joins.{joined_back, joined_contact, side_of}

@@ -1,6 +1,6 @@
 -- How two rectangles touch: what the side and the length say, that the other way round the side is opposite and the length equal. Assumes nothing.
 use Prim.Native.Nat.{ℕ, zero, suc, ◌+◌, ◌-◌, ◌≤◌, ◌<◌, max}
-use Rattle.std.specs.Prelude.{◌≡◌, refl, ◌↔◌, Bool, true, false, cond, not, ◌&&◌, leb, eqb}
+use Rattle.std.specs.Prelude.{◌≡◌, refl, ◌↔◌, Bool, true, false, cond, ◌&&◌, leb, eqb}
 use Rattle.std.proofs.Common.{sym, ap, ◌∙◌, arith, leb-true, le-leb, eqb-true, eq-eqb}
 use Rattle.floor.proofs.Lists.Laws.{no_false, and_parts, and_both}
 use Rattle.floor.specs.Jobs.{opposite}

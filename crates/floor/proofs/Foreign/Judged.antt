@@ -79,7 +79,7 @@ module _ (job plan : List ℕ) where
       back : GoodFor job plan → judge_read (read_sized job) plan ≡ answers true
       back g =
           told_yes g.o g.p (read_passed job g.o g.passed) g.shaped
-              ((good_exactly g.o (passes_read job g.o g.passed) g.p (read_complete g.o.stars plan g.p g.shaped)).1 (g.good, g.roomy))
+          ((good_exactly g.o (passes_read job g.o g.passed) g.p (read_complete g.o.stars plan g.p g.shaped)).1 (g.good, g.roomy))
 
   -- REFUSED by the job's own 1 to 6 and 17, in their order, and then by 16 where the bytes are not shaped as a plan; else yes or no
   pub refused_exactly : (k : ℕ) → (judged job plan ≡ refuses k) ↔ RefusedBy job plan k

@@ -1,9 +1,9 @@
 -- Which contacts cannot narrow the sheet: those that are longer than one cell. Where both rooms reach two cells or more over one another, nothing that makes the
 -- sheet as wide as it is goes by their contact, and all of it stays after the turn. Assumes nothing.
-use Rattle.std.specs.Prelude.{ℕ, ◌+◌, ◌-◌, ◌≤◌, ◌<◌, ◌≡◌, refl, ◌⊎◌, Bool, true, false, length, get_or}
+use Rattle.std.specs.Prelude.{ℕ, ◌+◌, ◌-◌, ◌≤◌, ◌<◌, ◌≡◌, refl, ◌⊎◌, Bool, true, false, length}
 use Rattle.std.proofs.Common.{sym, ◌∙◌, inl, inr}
 use Rattle.std.proofs.Math.Path.{ap}
-use mathlib.Core.List.{[], Memᴰ}
+use mathlib.Core.List.{Memᴰ}
 use native.Mathlib.Omega.{arith}
 use Rattle.floor.specs.Jobs.{Entry, SizedJob, Room, star_of, opposite}
 use Rattle.floor.proofs.Jobs.Facts.{star_at}

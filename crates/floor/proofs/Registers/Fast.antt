@@ -17,7 +17,7 @@ use Rattle.floor.specs.Registers.{register}
 use Rattle.floor.proofs.Registers.Runs.{Seen}
 use Rattle.floor.proofs.Floor.Inner.{Thin}
 use Rattle.floor.proofs.Registers.Floors.{view_of}
-use Rattle.floor.proofs.Registers.Right.{side_lies, lies_inside, complete, upright_seen, level_seen}
+use Rattle.floor.proofs.Registers.Right.{side_lies, lies_inside, upright_seen, level_seen}
 use Rattle.floor.specs.Registers.Merge.{in_line, merged}
 use Rattle.floor.proofs.Registers.Merge.{Rearranged, Fit, merged_walls}
 

@@ -1,12 +1,12 @@
 -- A held plan, seen upright and level: its contacts are its rules. Assumes nothing.
-use Rattle.std.specs.Prelude.{ℕ, zero, suc, ◌+◌, ◌-◌, ◌≤◌, ◌<◌, ◌≡◌, ◌⊎◌, length, get_or}
+use Rattle.std.specs.Prelude.{ℕ, zero, suc, ◌+◌, ◌≤◌, ◌<◌, ◌≡◌, ◌⊎◌, length, get_or}
 use Rattle.std.proofs.Math.Path.{refl}
 use Rattle.std.proofs.Common.{sym, ◌∙◌, inl, inr, arith}
 use mathlib.Core.List.{[], Memᴰ}
 use Rattle.floor.specs.Jobs.{Entry, Job, Vertex, Room}
 use Rattle.floor.specs.Jobs.Facts.{Passes}
 use Rattle.floor.proofs.Jobs.Facts.{star_at}
-use Rattle.floor.specs.Walls.{Rule, same, before, low, high, at, extra}
+use Rattle.floor.specs.Walls.{Rule, same, before, low, high, extra}
 use Rattle.floor.proofs.Walls.Rules.{Told, Asks, told_every, every_told}
 use Rattle.floor.specs.Plans.{Plan, rect_of}
 use Rattle.floor.specs.Floor.{Point, Wall, Stands, Floor, Framed, GoodPlan}

@@ -1,5 +1,5 @@
 -- Nothing smaller than a plan that is held. Assumes nothing.
-use Rattle.std.specs.Prelude.{ℕ, ◌+◌, ◌-◌, ◌≤◌, ◌<◌, ◌≡◌, length}
+use Rattle.std.specs.Prelude.{ℕ, ◌+◌, ◌-◌, ◌<◌, ◌≡◌, length}
 use Rattle.std.proofs.Math.Path.{sym, ap}
 use native.Mathlib.Omega.{arith}
 use Rattle.floor.specs.Jobs.{Job, Room, Sizes, SizedJob}
@@ -9,7 +9,7 @@ use Rattle.floor.proofs.Walls.Rules.{numbers_are, to_vertex}
 use Rattle.floor.specs.Plans.{Rect, Plan, rect_of, plan_of, room_rect}
 use Rattle.floor.specs.Floor.{GoodPlan}
 use Rattle.floor.proofs.Floor.Ours.{room_rect_lem, first_one}
-use Rattle.floor.specs.Smallest.{Placing, LiesAt, low_of, high_of, of_first, of_last, UprightAt, LevelAt, OneLine, NothingSmaller}
+use Rattle.floor.specs.Smallest.{Placing, low_of, high_of, of_first, of_last, UprightAt, LevelAt, OneLine, NothingSmaller}
 use Rattle.floor.proofs.Smallest.Least.{NoLarger, across, upward, nothing_narrower, nothing_lower}
 use Rattle.floor.specs.Calls.Sound.{Sound}
 use Rattle.floor.proofs.Calls.Sound.{some_room, sound_good, sound_roomy}

@@ -6,7 +6,7 @@ use mathlib.Core.List.{[], Memᴰ}
 use Rattle.floor.specs.Jobs.{Entry, Job, Vertex, Room, star_of, Sizes, size_of}
 use Rattle.floor.specs.Jobs.Facts.{Passes}
 use Rattle.floor.proofs.Jobs.Facts.{star_at}
-use Rattle.floor.specs.Walls.{Numbers, OnWall, upright, level, low, high, rules, extra}
+use Rattle.floor.specs.Walls.{Numbers, OnWall, upright, level, low, rules, extra}
 use Rattle.floor.proofs.Walls.Walk.{onwall_eq}
 use Rattle.floor.proofs.Walls.Rules.{Obeys, obeys_respects, to_vertex, least_below, sided, sided_low, sided_high, sided_same, sided_before}
 use Rattle.floor.specs.Plans.{Plan, rect_of}

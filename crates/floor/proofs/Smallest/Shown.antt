@@ -1,5 +1,5 @@
 -- F, and a placing of its rectangles that is smaller because rooms 5 and 6 meet only at a corner: it is none. Assumes nothing.
-use Rattle.std.specs.Prelude.{ℕ, ◌≤◌, ◌<◌, ◌≡◌, refl, [], ◌∷◌}
+use Rattle.std.specs.Prelude.{◌≡◌, refl, [], ◌∷◌}
 use mathlib.Core.List.Memᴰ
 use Rattle.std.proofs.Common.{arith}
 use Rattle.floor.specs.Fields.{read_field, rest_of, after_fields}

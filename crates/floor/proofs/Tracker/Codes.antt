@@ -1,5 +1,5 @@
 -- A touch as one number tells the touch. Assumes nothing.
-use Rattle.std.specs.Prelude.{ℕ, ◌+◌, ◌*◌, ◌≤◌, ◌<◌, ◌≡◌, refl, Bool, true, false, cond, eqb}
+use Rattle.std.specs.Prelude.{ℕ, ◌≤◌, ◌<◌, ◌≡◌, refl, Bool, true, false, cond, eqb}
 use Rattle.std.proofs.Common.{arith}
 use Rattle.floor.specs.Plans.{Plan, rect_of, Touch, clear, wall, touch_of}
 use Rattle.floor.proofs.Floor.Touches.{touch_fair}

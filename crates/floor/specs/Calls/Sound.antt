@@ -5,7 +5,6 @@ use Rattle.floor.specs.Jobs.Facts.{Passes}
 use Rattle.floor.specs.Jobs.Written.{Counts}
 use Rattle.floor.specs.Plans.{Plan}
 use Rattle.floor.specs.Plans.Held.{Drawn}
-use Rattle.floor.specs.Narrow.{nothing}
 use Rattle.floor.specs.Calls.{Board, empty, holding}
 
 -- WHAT IS HELD: a job past tests 2 to 6 and 17, with as many sizes as rooms, if any, and its own drawing

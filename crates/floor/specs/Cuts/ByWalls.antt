@@ -1,7 +1,6 @@
 -- Definitions; what is proved of them stands in proofs/ under the same name. Assumes nothing.
 use Rattle.std.specs.Prelude.{ℕ, zero, suc, Bool, cond, ◌&&◌, length, leb, ltb, eqb}
 use Rattle.std.proofs.Math.Option.{Option, none, some}
-use mathlib.Core.List.Memᴰ
 use mathlib.Core.List.{List, [], ◌∷◌}
 use Rattle.floor.specs.Plans.{Rect}
 use Rattle.floor.specs.Registers.{Partition}

@@ -1,9 +1,8 @@
 -- Definitions; what is proved of them stands in proofs/ under the same name. Assumes nothing.
-use Rattle.std.specs.Prelude.{ℕ, ◌+◌, ◌-◌, ◌≤◌, ◌<◌, ◌≡◌, length}
-use mathlib.Core.List.Memᴰ
+use Rattle.std.specs.Prelude.{ℕ, ◌+◌, ◌≤◌, ◌<◌, ◌≡◌, length}
 use mathlib.Core.List.{Memᴰ}
 use Rattle.floor.specs.Jobs.{Entry, Job, Room, opposite}
-use Rattle.floor.specs.Jobs.{rooms, star_of}
+use Rattle.floor.specs.Jobs.{star_of}
 use Rattle.floor.specs.Jobs.Stars.{entry, GoodStar}
 
 -- TEST 4 of an entry

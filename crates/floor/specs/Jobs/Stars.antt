@@ -1,5 +1,5 @@
 -- Definitions; what is proved of them stands in proofs/ under the same name. Assumes nothing.
-use Rattle.std.specs.Prelude.{ℕ, ◌-◌, ◌≤◌, ◌≡◌, eqb}
+use Rattle.std.specs.Prelude.{ℕ, ◌≤◌, ◌≡◌, eqb}
 use mathlib.Core.List.{[], ◌∷◌, Memᴰ}
 use Rattle.floor.specs.Jobs.{Entry, Star, Restarted}
 use Rattle.floor.specs.Lists.Laws.{count}

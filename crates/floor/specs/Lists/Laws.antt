@@ -2,7 +2,6 @@
 use Prim.Native.Nat.{ℕ}
 use Rattle.std.specs.Prelude.{Bool}
 use Rattle.std.proofs.Math.Bool.{true, false}
-use mathlib.Core.List.Memᴰ
 use mathlib.Core.List.{List}
 use Rattle.std.proofs.Math.ListN.{length}
 use Rattle.floor.specs.Lists.{keep}

@@ -1,7 +1,6 @@
 -- Definitions; what is proved of them stands in proofs/ under the same name. Assumes nothing.
-use Prim.Native.Nat.{ℕ, suc, ◌-◌, max}
+use Prim.Native.Nat.{ℕ, suc, max}
 use Rattle.std.specs.Prelude.{Bool, cond, ◌&&◌, ◌||◌, leb, ltb, eqb}
-use mathlib.Core.List.Memᴰ
 use mathlib.Core.List.{List, [], ◌∷◌}
 use Rattle.floor.specs.Registers.{Stretch, Partition}
 

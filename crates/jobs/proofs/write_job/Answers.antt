@@ -20,14 +20,14 @@ bounds-out-3 c = let args = c.args in
 
 pub put_stars-requires : goal.put_stars-requires
 put_stars-requires c = let args = c.args in (
-      search rules,
-      simp length-set (omega (
-        arith,
-        length_job c.wide-many.result args.ends.now args.nbr.now args.kind.now,
-        c.job_length-behind.ensures.0 args.kind.now,
-        c.put_head.auto.out,
-      )),
-    )
+  search rules,
+  simp length-set (omega (
+    arith,
+    length_job c.wide-many.result args.ends.now args.nbr.now args.kind.now,
+    c.job_length-behind.ensures.0 args.kind.now,
+    c.put_head.auto.out,
+  )),
+)
 
 pub put_sizes-requires : goal.put_sizes-requires
 put_sizes-requires c = let args = c.args in

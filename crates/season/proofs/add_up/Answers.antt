@@ -1,4 +1,4 @@
-use Rattle.std.proofs.Common.{◌-◌, refl, rules}
+use Rattle.std.proofs.Common.{refl, rules}
 use Rattle.season.proofs.Adding.{add_more, add_done}
 use Rattle.season.proofs.add_up.Goals as goal
 

@@ -1,4 +1,4 @@
-use Rattle.std.proofs.Common.{◌-◌, refl, arith, rules}
+use Rattle.std.proofs.Common.{refl, arith, rules}
 use Rattle.season.proofs.Putting.{put_more, put_done}
 use Rattle.season.proofs.put_all.Goals as goal
 

@@ -1,5 +1,4 @@
 use borrow.Author.Rules.{rules}
-use Prim.Native.Nat.{◌-◌}
 use Rattle.cuts.proofs.Linking.{link_start, link_on, link_done}
 use Rattle.cuts.proofs.links.link_rooms.Goals as goal
 

@@ -1,5 +1,4 @@
 use borrow.Author.Rules.{rules}
-use Prim.Native.Nat.{◌-◌}
 use mathlib.Core.Path.{◌∙◌}
 use Rattle.cuts.proofs.Linking.{leaf_here, leaf_none, from_start, from_there, follow_none, follow_on, follow_there}
 use Rattle.cuts.proofs.links.room_from.Goals as goal

@@ -1,5 +1,4 @@
 use borrow.Author.Rules.{rules}
-use Prim.Native.Nat.{◌-◌}
 use Rattle.cuts.proofs.Arranging.{past_start, past_on, over_start, over_on, over_met}
 use Rattle.cuts.proofs.rows.first_past.Goals as goal
 

@@ -1,4 +1,3 @@
-use Prim.Native.Nat.{◌-◌}
 use native.Mathlib.Nat.{sub-zero}
 use Rattle.drawing.proofs.Asking.{stars_false, stars_next, stars_all}
 use borrow.Author.Rules.{rules}

@@ -1,4 +1,3 @@
-use Prim.Native.Nat.{◌-◌}
 use Rattle.drawing.proofs.Asking.{round_first, round_false, round_next, round_all}
 use borrow.Author.Rules.{rules}
 use Rattle.drawing.proofs.order.part_ordered.Goals as goal

@@ -1,4 +1,3 @@
-use Prim.Native.Nat.{◌-◌}
 use native.Mathlib.Nat.{sub-zero}
 use Rattle.drawing.proofs.Asking.{pairs_false, pairs_next, pairs_all}
 use borrow.Author.Rules.{rules}

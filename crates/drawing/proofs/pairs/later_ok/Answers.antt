@@ -1,4 +1,3 @@
-use Prim.Native.Nat.{◌-◌}
 use Rattle.drawing.proofs.Asking.{rects_false, rects_next, rects_all}
 use borrow.Author.Rules.{rules}
 use Rattle.drawing.proofs.pairs.later_ok.Goals as goal

@@ -1,4 +1,3 @@
-use Prim.Native.Nat.{◌-◌}
 use mathlib.Core.Path.{refl}
 use Rattle.drawing.proofs.Placing.{rooms_first, rooms_more, rooms_done}
 use borrow.Author.Rules.{rules}

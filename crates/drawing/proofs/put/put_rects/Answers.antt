@@ -1,4 +1,3 @@
-use Prim.Native.Nat.{◌-◌}
 use mathlib.Core.Path.{refl}
 use Rattle.drawing.proofs.Writing.{fields_first, fields_more, fields_done}
 use borrow.Author.Rules.{rules}

@@ -1,4 +1,3 @@
-use Prim.Native.Nat.{◌-◌}
 use native.Mathlib.Nat.{sub-zero}
 use Rattle.drawing.proofs.Asking.{rects_false, rects_next, rects_all}
 use borrow.Author.Rules.{rules}

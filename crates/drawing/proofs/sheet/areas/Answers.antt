@@ -1,4 +1,3 @@
-use Prim.Native.Nat.{◌-◌}
 use native.Mathlib.Nat.{sub-zero}
 use Rattle.drawing.proofs.Asking.{sum_next, sum_done}
 use borrow.Author.Rules.{rules}

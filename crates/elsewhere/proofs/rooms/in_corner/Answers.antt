@@ -1,4 +1,3 @@
-use Prim.Native.Nat.{◌-◌}
 use Rattle.elsewhere.proofs.Asking.{corner_first, corner_next, corner_done}
 use borrow.Author.Rules.{rules}
 use Rattle.elsewhere.proofs.rooms.in_corner.Goals as goal

@@ -1,4 +1,3 @@
-use Prim.Native.Nat.{◌-◌}
 use Rattle.elsewhere.proofs.Asking.{rooms_first, rooms_false, rooms_next, rooms_all}
 use borrow.Author.Rules.{rules}
 use Rattle.elsewhere.proofs.rooms.rooms_good.Goals as goal

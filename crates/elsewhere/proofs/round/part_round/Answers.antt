@@ -1,4 +1,3 @@
-use Prim.Native.Nat.{◌-◌}
 use Rattle.elsewhere.proofs.Asking.{round_first, round_false, round_next, round_all}
 use borrow.Author.Rules.{rules}
 use Rattle.elsewhere.proofs.round.part_round.Goals as goal

@@ -1,4 +1,3 @@
-use Prim.Native.Nat.{◌-◌}
 use Rattle.elsewhere.proofs.Asking.{stand_false, stand_next, stand_all}
 use borrow.Author.Rules.{rules}
 use Rattle.elsewhere.proofs.round.part_stands.Goals as goal

@@ -1,4 +1,3 @@
-use Prim.Native.Nat.{◌-◌}
 use native.Mathlib.Nat.{sub-zero}
 use Rattle.elsewhere.proofs.Shaping.{fields_false, fields_next, fields_done}
 use borrow.Author.Rules.{rules}

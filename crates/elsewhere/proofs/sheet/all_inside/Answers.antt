@@ -1,4 +1,3 @@
-use Prim.Native.Nat.{◌-◌}
 use Rattle.elsewhere.proofs.Placing.{inside_first, inside_false, inside_next, inside_all}
 use borrow.Author.Rules.{rules}
 use Rattle.elsewhere.proofs.sheet.all_inside.Goals as goal

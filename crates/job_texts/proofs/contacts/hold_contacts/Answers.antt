@@ -1,4 +1,3 @@
-use Prim.Native.Nat.{◌-◌}
 use mathlib.Core.Path.{refl}
 use Rattle.job_texts.proofs.Pieces.{size_last, contacts_over, contact_lacks, contact_last, comma_lacks, contact_next, count_kept, count_told}
 use borrow.Author.Rules.{rules}

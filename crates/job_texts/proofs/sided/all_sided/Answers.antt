@@ -1,4 +1,3 @@
-use Prim.Native.Nat.{◌-◌}
 use Rattle.job_texts.proofs.AllSided.{star_over, star_next, stars_done, sided_stars}
 use borrow.Author.Rules.{rules}
 use Rattle.job_texts.proofs.sided.all_sided.Goals as goal

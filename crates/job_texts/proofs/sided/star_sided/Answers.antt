@@ -1,4 +1,3 @@
-use Prim.Native.Nat.{◌-◌}
 use Rattle.job_texts.proofs.AllSided.{kind_over, kind_next, kinds_done, star_cells}
 use borrow.Author.Rules.{rules}
 use Rattle.job_texts.proofs.sided.star_sided.Goals as goal

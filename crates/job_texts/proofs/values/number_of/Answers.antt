@@ -1,4 +1,3 @@
-use Prim.Native.Nat.{◌-◌}
 use native.Mathlib.Omega.{arith}
 use Rattle.job_texts.proofs.Said.{no_number, number_first, number_next, number_done}
 use borrow.Author.Rules.{rules}

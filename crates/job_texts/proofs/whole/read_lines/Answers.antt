@@ -1,4 +1,3 @@
-use Prim.Native.Nat.{◌-◌}
 use native.Mathlib.Omega.{arith}
 use Rattle.job_texts.proofs.AllLines.{end_behind, end_within, lines_first, lines_wrong, lines_next, no_rooms_lem, lines_done}
 use borrow.Author.Rules.{rules}
@@ -24,11 +23,11 @@ loop-at-smaller c = omega (arith, end_behind c.args.text.now _ _ c.find-end.ensu
 
 pub loop-at-preserved : goal.loop-at-preserved
 loop-at-preserved c = (
-      omega (arith, end_within c.args.text.now _ _ c.find-end.ensures c.loop-at-test.true),
-      omega (arith, end_behind c.args.text.now _ _ c.find-end.ensures c.loop-at-test.true),
-      search rules,
-      search (lines_next, rules),
-    )
+  omega (arith, end_within c.args.text.now _ _ c.find-end.ensures c.loop-at-test.true),
+  omega (arith, end_behind c.args.text.now _ _ c.find-end.ensures c.loop-at-test.true),
+  search rules,
+  search (lines_next, rules),
+)
 
 pub returns-then-stars-eq0 : goal.returns-then-stars-eq0
 returns-then-stars-eq0 c = search (no_rooms_lem, rules)

@@ -1,4 +1,3 @@
-use Prim.Native.Nat.{◌-◌}
 use mathlib.Core.Path.{refl}
 use Rattle.job_texts.proofs.Spaced.{found_here, found_next, found_none}
 use borrow.Author.Rules.{rules}

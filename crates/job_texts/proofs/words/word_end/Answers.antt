@@ -1,4 +1,3 @@
-use Prim.Native.Nat.{◌-◌}
 use mathlib.Core.Path.{refl}
 use Rattle.job_texts.proofs.Spaced.{letter_here, letter_next, letter_none}
 use borrow.Author.Rules.{rules}

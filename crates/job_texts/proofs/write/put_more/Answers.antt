@@ -1,4 +1,3 @@
-use Prim.Native.Nat.{◌-◌}
 use mathlib.Core.Path.{refl}
 use Rattle.job_texts.proofs.Put.{more_next, more_done}
 use borrow.Author.Rules.{rules}

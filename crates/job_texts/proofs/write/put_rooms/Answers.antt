@@ -1,4 +1,3 @@
-use Prim.Native.Nat.{◌-◌}
 use mathlib.Core.Path.{refl}
 use Rattle.job_texts.proofs.Put.{rooms_first, rooms_next, rooms_done}
 use borrow.Author.Rules.{rules}

@@ -1,4 +1,3 @@
-use Prim.Native.Nat.{◌-◌}
 use Rattle.jobs.proofs.Filling.{hold_first, room_in, room_word, room_behind, hold_next, hold_done}
 use borrow.Author.Rules.{rules}
 use Rattle.jobs.proofs.fill.hold.Goals as goal
@@ -14,16 +13,15 @@ pub overflow_cast-ends : goal.overflow_cast-ends
 overflow_cast-ends c = search (room_word, rules)
 
 pub loop-i-preserved : goal.loop-i-preserved
-loop-i-preserved c =
-    (
-      search rules,
-      search rules,
-      search rules,
-      search rules,
-      search (room_behind, rules),
-      hold_next _ _ _ c.loop-i.at _ _ _ _ _ _ _ _ _ c.loop-i-test.true c.value_at-star.ensures c.after_at-at.ensures c.put_star.ensures.0
-          c.put_star.ensures.1 c.loop-i.invariant.5,
-    )
+loop-i-preserved c = (
+  search rules,
+  search rules,
+  search rules,
+  search rules,
+  search (room_behind, rules),
+  hold_next _ _ _ c.loop-i.at _ _ _ _ _ _ _ _ _ c.loop-i-test.true c.value_at-star.ensures c.after_at-at.ensures c.put_star.ensures.0
+      c.put_star.ensures.1 c.loop-i.invariant.5,
+)
 
 pub returns : goal.returns
 returns c = search (hold_done, rules)

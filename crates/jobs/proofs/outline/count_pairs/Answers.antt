@@ -1,5 +1,4 @@
 use Rattle.jobs.proofs.Outlines.{pairs_fit, count_broken, count_tag, count_odd, count_next, count_done, none_behind, behind_next, behind_done}
-use Prim.Native.Nat.{◌-◌}
 use native.Mathlib.Nat.{sub-zero}
 use native.Mathlib.Omega.{arith}
 use Rattle.fields.proofs.Laws.{in_order_lem, within}

@@ -1,4 +1,3 @@
-use Prim.Native.Nat.{◌-◌}
 use Rattle.jobs.proofs.Writing.{total_first, total_more, total_done}
 use borrow.Author.Rules.{rules}
 use Rattle.jobs.proofs.put.job_length.Goals as goal

@@ -1,5 +1,4 @@
 use native.Mathlib.Nat.{add-zero, sub-zero}
-use Prim.Native.Nat.{◌-◌}
 use mathlib.Core.Path.{refl}
 use lib.ListN.{length-set}
 use native.Mathlib.Omega.{arith}

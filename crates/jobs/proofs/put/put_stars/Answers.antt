@@ -1,4 +1,3 @@
-use Prim.Native.Nat.{◌-◌}
 use Rattle.jobs.proofs.Writing.{put_first, room_field, room_later, stars_more, stars_done}
 use borrow.Author.Rules.{rules}
 use Rattle.jobs.proofs.put.put_stars.Goals as goal

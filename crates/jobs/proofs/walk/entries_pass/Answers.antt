@@ -1,4 +1,3 @@
-use Prim.Native.Nat.{◌-◌}
 use native.Mathlib.Nat.{sub-zero}
 use Rattle.jobs.proofs.Walks.{entries_false, entries_next, entries_done}
 use borrow.Author.Rules.{rules}

@@ -1,4 +1,3 @@
-use Prim.Native.Nat.{◌-◌}
 use native.Mathlib.Nat.{sub-zero}
 use Rattle.jobs.proofs.Walks.{place_next, place_here}
 use borrow.Author.Rules.{rules}

@@ -1,4 +1,3 @@
-use Prim.Native.Nat.{◌-◌}
 use native.Mathlib.Nat.{sub-zero}
 use Rattle.jobs.proofs.Walks.{stars_false, stars_next, stars_done}
 use borrow.Author.Rules.{rules}

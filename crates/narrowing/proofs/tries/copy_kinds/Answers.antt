@@ -1,4 +1,3 @@
-use Prim.Native.Nat.{◌-◌}
 use lib.ListN.{length-set}
 use Rattle.narrowing.proofs.Copying.{copy_next, copy_done}
 use borrow.Author.Rules.{rules}

@@ -1,5 +1,4 @@
 use native.Mathlib.Omega.{arith}
-use Prim.Native.Nat.{◌-◌}
 use Rattle.registers.proofs.Rows.{wrote_first, wrote_more, wrote_done}
 use borrow.Author.Rules.{rules}
 use Rattle.registers.proofs.merge.merge_lines.Goals as goal

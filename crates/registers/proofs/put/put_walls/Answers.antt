@@ -1,4 +1,3 @@
-use Prim.Native.Nat.{◌-◌}
 use mathlib.Core.Path.{refl}
 use Rattle.registers.proofs.Putting.{walls_first, walls_more, walls_done}
 use borrow.Author.Rules.{rules}

@@ -1,4 +1,4 @@
-use Rattle.std.proofs.Common.{◌-◌, refl, arith, rules}
+use Rattle.std.proofs.Common.{refl, arith, rules}
 use Rattle.season.proofs.Printing.{lines_none, none_short, lines_more, more_short, lines_done, done_short}
 use Rattle.season.proofs.text.put_figures.Goals as goal
 

@@ -1,4 +1,3 @@
-use Prim.Native.Nat.{◌-◌}
 use native.Mathlib.Nat.{sub-zero}
 use Rattle.stars.proofs.Holding.{stars_false, stars_next, stars_done, test6_held}
 use borrow.Author.Rules.{rules}

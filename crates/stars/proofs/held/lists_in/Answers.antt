@@ -1,4 +1,3 @@
-use Prim.Native.Nat.{◌-◌}
 use Rattle.stars.proofs.Holding.{lists_here, lists_next, lists_done}
 use borrow.Author.Rules.{rules}
 use Rattle.stars.proofs.held.lists_in.Goals as goal

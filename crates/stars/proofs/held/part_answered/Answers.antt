@@ -1,4 +1,3 @@
-use Prim.Native.Nat.{◌-◌}
 use Rattle.stars.proofs.Holding.{part_false, part_next, part_done}
 use borrow.Author.Rules.{rules}
 use Rattle.stars.proofs.held.part_answered.Goals as goal

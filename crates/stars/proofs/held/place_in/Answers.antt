@@ -1,4 +1,3 @@
-use Prim.Native.Nat.{◌-◌}
 use Rattle.stars.proofs.Holding.{place_here, place_next, place_done}
 use borrow.Author.Rules.{rules}
 use Rattle.stars.proofs.held.place_in.Goals as goal

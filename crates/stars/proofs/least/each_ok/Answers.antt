@@ -1,5 +1,4 @@
 use borrow.Author.Rules.{rules}
-use Prim.Native.Nat.{◌-◌}
 use native.Mathlib.Nat.{sub-zero}
 use Rattle.stars.proofs.Sized.{each_false, each_next, each_done}
 use Rattle.stars.proofs.least.each_ok.Goals as goal

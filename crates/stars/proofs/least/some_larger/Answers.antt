@@ -1,5 +1,4 @@
 use borrow.Author.Rules.{rules}
-use Prim.Native.Nat.{◌-◌}
 use native.Mathlib.Nat.{sub-zero}
 use Rattle.stars.proofs.Sized.{some_true, some_next, some_done}
 use Rattle.stars.proofs.least.some_larger.Goals as goal

@@ -1,5 +1,4 @@
 use native.Mathlib.Omega.{arith}
-use Prim.Native.Nat.{◌-◌}
 use Rattle.stars.proofs.Entries.{apart_false, apart_next, all_done}
 use borrow.Author.Rules.{rules}
 use Rattle.stars.proofs.star.apart_from.Goals as goal

@@ -1,4 +1,3 @@
-use Prim.Native.Nat.{◌-◌}
 use Rattle.stars.proofs.Entries.{round_first, round_done, round_broken, round_more}
 use borrow.Author.Rules.{rules}
 use Rattle.stars.proofs.star.changes_round.Goals as goal

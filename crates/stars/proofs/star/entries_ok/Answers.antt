@@ -1,4 +1,3 @@
-use Prim.Native.Nat.{◌-◌}
 use Rattle.stars.proofs.Entries.{all_false, all_next, all_done}
 use borrow.Author.Rules.{rules}
 use Rattle.stars.proofs.star.entries_ok.Goals as goal

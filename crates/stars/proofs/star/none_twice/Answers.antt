@@ -1,4 +1,3 @@
-use Prim.Native.Nat.{◌-◌}
 use Rattle.stars.proofs.Entries.{twice_false, twice_next, twice_done}
 use borrow.Author.Rules.{rules}
 use Rattle.stars.proofs.star.none_twice.Goals as goal

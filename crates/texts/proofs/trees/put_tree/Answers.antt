@@ -1,4 +1,3 @@
-use Prim.Native.Nat.{◌-◌}
 use mathlib.Core.Path.{refl}
 use Rattle.texts.proofs.Cutting.{walked_first, walked_cut, walked_leaf, walked_done}
 use borrow.Author.Rules.{rules}

@@ -1,4 +1,3 @@
-use Prim.Native.Nat.{◌-◌}
 use Rattle.stars.proofs.Round.{links_true, links_other, links_no}
 use Rattle.turns.proofs.Contacts.{last_first}
 use borrow.Author.Rules.{rules}

@@ -1,4 +1,3 @@
-use Prim.Native.Nat.{◌-◌}
 use Rattle.turns.proofs.Contacts.{many_first, many_more, many_done}
 use borrow.Author.Rules.{rules}
 use Rattle.turns.proofs.contact.many_of.Goals as goal

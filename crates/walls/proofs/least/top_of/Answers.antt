@@ -1,4 +1,3 @@
-use Prim.Native.Nat.{◌-◌}
 use Rattle.walls.proofs.Sizing.{top_start, top_next, top_done, top_untold}
 use borrow.Author.Rules.{rules}
 use Rattle.walls.proofs.least.top_of.Goals as goal

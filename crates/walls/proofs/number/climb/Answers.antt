@@ -1,4 +1,3 @@
-use Prim.Native.Nat.{◌-◌}
 use mathlib.Core.Path.{refl}
 use Rattle.walls.proofs.Telling.{named_same}
 use Rattle.walls.proofs.Visiting.{climbs_none, climbs_more}

@@ -1,4 +1,3 @@
-use Prim.Native.Nat.{◌-◌}
 use mathlib.Core.Path.{refl}
 use Rattle.walls.proofs.Running.{going_start}
 use Rattle.walls.proofs.Telling.{named_here, named_later, star_next, star_done}

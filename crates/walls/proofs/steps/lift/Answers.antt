@@ -16,9 +16,8 @@ returns-then-number-v c =
     (refl, omega (arith, at_get_d c.args.f.now c.args.a c.requires.0))
 
 pub returns : goal.returns
-returns c =
-    (
-      ap (λ (v : ℕ). set c.args.f.now c.args.b v) (omega (arith, at_get_d c.args.f.now c.args.a c.requires.0)),
-      omega (arith, at_get_d c.args.f.now c.args.a c.requires.0, at_get_d c.args.f.now c.args.b c.requires.1),
-      omega (arith, at_get_d c.args.f.now c.args.a c.requires.0),
-    )
+returns c = (
+  ap (λ (v : ℕ). set c.args.f.now c.args.b v) (omega (arith, at_get_d c.args.f.now c.args.a c.requires.0)),
+  omega (arith, at_get_d c.args.f.now c.args.a c.requires.0, at_get_d c.args.f.now c.args.b c.requires.1),
+  omega (arith, at_get_d c.args.f.now c.args.a c.requires.0),
+)

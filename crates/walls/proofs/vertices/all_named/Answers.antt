@@ -1,4 +1,3 @@
-use Prim.Native.Nat.{◌-◌}
 use native.Mathlib.Nat.{sub-zero}
 use Rattle.walls.proofs.Telling.{all_false, all_next, all_done}
 use borrow.Author.Rules.{rules}

@@ -1,4 +1,3 @@
-use Prim.Native.Nat.{◌-◌}
 use Rattle.walls.proofs.Telling.{part_false, part_next, part_done}
 use borrow.Author.Rules.{rules}
 use Rattle.walls.proofs.vertices.part_named.Goals as goal

@@ -4,7 +4,7 @@ use lib.ListN.{length}
 use Rattle.floor.specs.Texts.{wall_lines}
 use Rattle.registers.specs.Kept.{walls_in}
 use Rattle.letters.specs.Puts.{Puts}
-use Rattle.texts.proofs.walls.put_walls.Given as goal
+use Rattle.texts.proofs.wall_lines.put_walls.Given as goal
 
 abbrev pub invariant-loop-i : goal.invariant-loop-i
 invariant-loop-i l =

@@ -1,9 +1,8 @@
-use Prim.Native.Nat.{◌-◌}
 use mathlib.Core.Path.{refl}
 use native.Mathlib.Omega.{arith}
 use Rattle.texts.proofs.Registers.{walls_none, none_short, walls_more, more_short, walls_done, walls_short}
 use borrow.Author.Rules.{rules}
-use Rattle.texts.proofs.walls.put_walls.Goals as goal
+use Rattle.texts.proofs.wall_lines.put_walls.Goals as goal
 
 pub loop-i-init : goal.loop-i-init
 loop-i-init c = (refl, omega arith, walls_none _ _ _ _, none_short _ _)
