@@ -1,5 +1,5 @@
-// Input read as far as a buffer reaches, and what a program says on standard error where its input cannot be read or its output cannot be written. Its
-// exit status says nothing of that.
+// Input read as a whole, and what a program says where its input cannot be read or its output cannot be written. A program has no exit status: it says
+// so on standard error.
 #![tactic(auto)]
 
 ghost use Rattle.std.specs.Prelude.{◌<◌, length, take, IfOk};
