@@ -1,5 +1,4 @@
-// Input read as a whole, and what a program says where its input cannot be read or its output cannot be written. A program has no exit status: it says
-// so on standard error.
+// Input read as a whole, and what a program says on standard error where its input cannot be read or its output cannot be written.
 #![tactic(auto)]
 
 ghost use Rattle.std.specs.Prelude.{◌<◌, length, take, IfOk};
