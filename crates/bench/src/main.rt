@@ -3,217 +3,111 @@
 // the contact's two rooms, a byte each; then the job.
 #![tactic(auto)]
 
-use board::{Board, Reply};
+use board::{Board, Reply, Step};
 use drawing::Touch;
-use jobs::Answer;
-use stars::Stars;
 use std::io;
 use walls::Walls;
 
-// What a number counts: an upright one once, and a level one a million times.
-fn worth(n: u16, level: bool) -> u64 {
-    if level {
-        return 1000000 * (n as u64);
-    }
-    n as u64
-}
-
-// What the numbers of one direction count together.
-fn sum_of(numbers: &[u16; 128], level: bool) -> u64 {
-    let mut sum: u64 = 0;
-    let mut i: usize = 0;
-    while i < 128 {
-        sum = std::num::wrapping_add_u64(sum, worth(numbers[i], level));
-        i += 1;
+// What comes of so many rounds, added up; they are counted from 1 on.
+fn summed<F: FnMut(u64) -> u64>(rounds: u64, mut round: F) -> u64
+    requires { F.IsAlwaysCallable round }
+{
+    let mut sum = 0u64;
+    for i in 1..=rounds {
+        sum = sum.wrapping_add(round(i));
     }
     sum
 }
 
-// What all the numbers count together: nothing for a circle.
-fn weight(walls: Walls) -> u64 {
-    let uprights = walls.uprights;
-    let levels = walls.levels;
-    let xs = uprights.0;
-    let ys = levels.0;
-    std::num::wrapping_add_u64(sum_of(&xs, false), sum_of(&ys, true))
+// What the numbers of one direction count together, each so many times.
+fn sum_of(numbers: &[u16; 128], times: u32) -> u64 {
+    numbers.iter().fold(0u64, |sum, &n| {
+        sum.wrapping_add(u64::from(times) * u64::from(n))
+    })
 }
 
-// How many circles: 1 or 0.
-fn circles(walls: Walls) -> u64 {
-    let answer = walls.answer;
-    match answer {
-        walls::Answer::Numbered => 0,
-        walls::Answer::Circle => 1,
-    }
+// What all the numbers count together: an upright one once, and a level one a million times.
+fn weight(walls: &Walls) -> u64 {
+    let uprights = sum_of(&walls.uprights.0, 1);
+    uprights.wrapping_add(sum_of(&walls.levels.0, 1_000_000))
 }
 
-// The walls numbered so many times, and the weights and circles added up.
-fn total(stars: Stars, rounds: u64) -> u64 {
-    let mut sum: u64 = 0;
-    let mut left = rounds;
-    let sizes = stars::least::none_told();
-    while 0 < left {
-        let walls = walls::walls_of(
-            &stars.ends,
-            &stars.nbr,
-            &stars.kind,
-            fields::wide(stars.count),
-            fields::wide(sizes.told),
-            &sizes.list,
-        );
-        sum = std::num::wrapping_add_u64(sum, weight(walls));
-        sum = std::num::wrapping_add_u64(sum, circles(walls));
-        left -= 1;
-    }
-    sum
-}
-
-// The walls of a job numbered; nothing of a job that fails a test before.
+// The walls of a job numbered, with no least sizes, 1 for a circle; nothing of a job that fails a test before.
 fn numberings(job: &[u8], rounds: u64) -> u64 {
-    let read = jobs::read_job(job);
-    let answer = read.answer;
-    let stars = read.stars;
-    match answer {
-        Answer::Passed => total(stars, rounds),
-        Answer::Refused(_) => 0,
-    }
-}
-
-// The length of wall that is shared, 0 for none.
-fn shared(touch: Touch) -> u64 {
-    let Touch::Wall(_, length) = touch else {
+    let Ok(read) = jobs::read_job(job) else {
         return 0;
     };
-    length as u64
+    let stars = read.stars.lent();
+    let none = stars::least::none_told();
+    let sizes = none.lent();
+    summed(
+        rounds,
+        |_| walls::walls_of(&stars, &sizes).map_or(1, |walls| weight(&walls)),
+    )
 }
 
-// 1 for what is done, a thousand times the number of a refusal, where a rectangle ends, the length of wall that is shared, the turns made.
-fn mark(reply: Reply) -> u64 {
-    match reply {
-        Reply::Done => 1,
-        Reply::Refused(k) => 1000 * (k as u64),
-        Reply::Spans(rect) => rect.x2 as u64,
-        Reply::Touched(touch) => shared(touch),
-        Reply::Says(yes) => yes as u64,
-        Reply::Wrote(_) => 0,
-        Reply::Made(turns) => turns as u64,
+// 1 for what is done, a thousand times the number of a refusal, where a rectangle ends, the length of wall that is shared, 0 for none, the turns made.
+fn mark(step: &Step) -> u64 {
+    match step.reply {
+        Ok(Reply::Done) => 1,
+        Err(why) => 1000 * u64::from(why.number()),
+        Ok(Reply::Spans(rect)) => u64::from(rect.x2),
+        Ok(Reply::Touched(Touch::Wall(_, length))) => u64::from(length),
+        Ok(Reply::Touched(Touch::Clear)) => 0,
+        Ok(Reply::Says(yes)) => u64::from(yes),
+        Ok(Reply::Wrote(_)) => 0,
+        Ok(Reply::Made(turns)) => turns as u64,
     }
 }
 
-// A job loaded so many times into one board, and the marks added up.
-fn loads(job: &[u8], rounds: u64) -> u64 {
-    let mut sum: u64 = 0;
-    let mut left = rounds;
-    let mut held = board::empty();
-    while 0 < left {
-        let step = held.load(job);
-        let next = step.board;
-        held = next;
-        let reply = step.reply;
-        sum = std::num::wrapping_add_u64(sum, mark(reply));
-        left -= 1;
-    }
-    sum
-}
-
-// A contact turned so many times, there and back, and the marks added up.
-fn turns(first: Board, u: usize, v: usize, rounds: u64) -> u64 {
-    let mut sum: u64 = 0;
-    let mut left = rounds;
-    let mut held = first;
-    while 0 < left {
-        let step = held.turn(u, v);
-        let next = step.board;
-        held = next;
-        let reply = step.reply;
-        sum = std::num::wrapping_add_u64(sum, mark(reply));
-        left -= 1;
-    }
-    sum
-}
-
-// A job loaded once and then turned.
-fn turnings(job: &[u8], u: usize, v: usize, rounds: u64) -> u64 {
-    let none = board::empty();
-    let step = none.load(job);
-    let held = step.board;
-    turns(held, u, v, rounds)
-}
-
-// A floor narrowed so many times, each time as it was first, and the turns added up.
-fn slims(first: Board, rounds: u64) -> u64 {
-    let mut sum: u64 = 0;
-    let mut left = rounds;
-    while 0 < left {
-        let step = first.narrow();
-        let reply = step.reply;
-        sum = std::num::wrapping_add_u64(sum, mark(reply));
-        left -= 1;
-    }
-    sum
-}
-
-// A job loaded once and then narrowed.
-fn slimmings(job: &[u8], rounds: u64) -> u64 {
-    let none = board::empty();
-    let step = none.load(job);
-    let held = step.board;
-    slims(held, rounds)
+// A board that holds a job.
+fn loaded(job: &[u8]) -> Board {
+    board::empty().load(job).board
 }
 
 // One vertex after the other asked for its rectangle, and how it touches u, so many times, and the marks added up.
-fn asks(first: Board, u: usize, rounds: u64) -> u64 {
-    let mut sum: u64 = 0;
-    let mut left = rounds;
-    let mut held = first;
-    while 0 < left {
-        let v = (left % 64) as usize;
-        let step = held.rectangle(v);
-        let same = step.board;
-        let rect = step.reply;
-        sum = std::num::wrapping_add_u64(sum, mark(rect));
-        let last = same.touches(u, v);
-        let next = last.board;
-        held = next;
-        let reply = last.reply;
-        sum = std::num::wrapping_add_u64(sum, mark(reply));
-        left -= 1;
-    }
-    sum
-}
-
-// A job loaded once and then asked of.
-fn askings(job: &[u8], u: usize, rounds: u64) -> u64 {
-    let none = board::empty();
-    let step = none.load(job);
-    let held = step.board;
-    asks(held, u, rounds)
+fn asks(held: Board, u: usize, rounds: u64) -> u64 {
+    summed(rounds, |i| {
+        let v = (i % 64) as usize;
+        let rect = held.rectangle(v);
+        let touch = rect.board.touches(u, v);
+        mark(&rect).wrapping_add(mark(&touch))
+    })
 }
 
 // A power of ten.
 fn power(digit: u8) -> u64 {
     match digit {
-        b'0' => 1,
-        b'1' => 10,
-        b'2' => 100,
-        b'3' => 1000,
-        b'4' => 10000,
-        b'5' => 100000,
-        b'6' => 1000000,
-        b'7' => 10000000,
-        b'8' => 100000000,
-        _ => 1000000000,
+        b'0'..=b'8' => 10u64.pow(u32::from(digit - b'0')),
+        _ => 1_000_000_000,
     }
 }
 
-// What is asked for, done.
+// What is asked for, done: a load and a turn each on the board that the one before left, the rest each on the board as it was first.
 fn done(what: u8, rounds: u64, u: usize, v: usize, job: &[u8]) -> u64 {
     match what {
         b'n' => numberings(job, rounds),
-        b'l' => loads(job, rounds),
-        b't' => turnings(job, u, v, rounds),
-        b's' => slimmings(job, rounds),
-        b'q' => askings(job, u, rounds),
+        b'l' => {
+            let mut held = board::empty();
+            summed(rounds, |_| {
+                let step = held.load(job);
+                held = step.board;
+                mark(&step)
+            })
+        }
+        b't' => {
+            let mut held = loaded(job);
+            summed(rounds, |_| {
+                let step = held.turn(u, v);
+                held = step.board;
+                mark(&step)
+            })
+        }
+        b's' => {
+            let held = loaded(job);
+            summed(rounds, |_| mark(&held.narrow()))
+        }
+        b'q' => asks(loaded(job), u, rounds),
         _ => 0,
     }
 }
@@ -221,11 +115,9 @@ fn done(what: u8, rounds: u64, u: usize, v: usize, job: &[u8]) -> u64 {
 fn main(rt: HostRuntime) -> io::Result<()> {
     let mut input = [0u8; 1028];
     let n = streams::read_full(&mut rt.stdin(), &mut input)?;
-    if n < 4 {
+    let &[what, digit, u, v, ref job @ ..] = &input[..n] else {
         return Ok(());
-    }
-    let u = fields::wide(input[2]);
-    let v = fields::wide(input[3]);
-    let sum = done(input[0], power(input[1]), u, v, &input[4..n]);
+    };
+    let sum = done(what, power(digit), usize::from(u), usize::from(v), job);
     println!(rt; "{sum}")
 }

@@ -15,8 +15,11 @@ use Rattle.floor.proofs.Calls.Sound.{sound_good, load_reads}
 use Rattle.floor.proofs.Calls.Effects.{refused_leaves, wrote_job, turn_turn}
 use Rattle.registers.specs.Kept.{register_in}
 use Rattle.board.specs.declared.Board.{Board as HeldBoard}
+use Rattle.std.specs.Prelude.{Result, Ok, Err}
+use Rattle.refusals.specs.declared.Refusal.{Refusal}
+use Rattle.refusals.specs.Numbers.{number_of}
 use Rattle.board.specs.declared.Reply.{Reply as Said}
-use Rattle.board.specs.declared.Reply.TheVariants.{Refused, Done, Wrote}
+use Rattle.board.specs.declared.Reply.TheVariants.{Done, Wrote}
 use Rattle.board.specs.declared.Step.{Step as Handed}
 use Rattle.board.specs.Boards.{board_for, board_of, reply_of, handed, as_rules, Outcome, outcome, Tells}
 use Rattle.board.specs.Reach.{Reached, at_first, called}
@@ -75,17 +78,17 @@ pub reached_floor : (b : HeldBoard) → Reached b → (o : SizedJob) (p : Plan) 
 reached_floor b h o p e = (sound_good o p (board_sound b (reached_stands b h) o p e)).floor
 
 -- DEMAND 1: A REFUSED CALL on a reached board hands back the very board, and every byte of the lent buffer
-pub refused_call : (b : HeldBoard) → Reached b → (c : Call) (r : Handed) (buf : List ℕ) (k : ℕ) → Tells r buf (outcome b c) → r.reply ≡ Refused k
+pub refused_call : (b : HeldBoard) → Reached b → (c : Call) (r : Handed) (buf : List ℕ) (k : Refusal) → Tells r buf (outcome b c) → r.reply ≡ Err k
     → (r.board ≡ b) × (buf ≡ lent c)
 unfolding reply_of handed
 refused_call b h c r buf k t e =
     let a = reached_step b h c r buf t in
-    let s : (step (board_of b) c).reply ≡ refusal k = sym a.reply ∙ ap reply_of e in
+    let s : (step (board_of b) c).reply ≡ refusal (number_of k) = sym a.reply ∙ ap reply_of e in
     let f : handed b (step (board_of b) c).reply (step (board_of b) c).board ≡ b = rw s in
-    (a.board ∙ f, a.buffer ∙ (refused_leaves (board_of b) c k s).same_buffer)
+    (a.board ∙ f, a.buffer ∙ (refused_leaves (board_of b) c (number_of k) s).same_buffer)
 
 -- a reply by what it says
-says_done : (x : Said) → reply_of x ≡ done → x ≡ Done
+says_done : (x : Result Said Refusal) → reply_of x ≡ done → x ≡ Ok Done
 says_done x e = sym (saying_back x) ∙ ap saying e
 
 -- the board of what is held is the very board
@@ -109,7 +112,7 @@ unfolding handed
 done_hands b o p x a e f = rw (e, f)
 
 -- DEMAND 3: AN ACCEPTED TURN MADE AGAIN AT ONCE, its rooms in either order, is accepted and gives back the very board before it
-module _ (b : HeldBoard) (h : Reached b) (u v : ℕ) (r : Handed) (x : List ℕ) (t : Tells r x (outcome b (turns u v))) (d : r.reply ≡ Done) where
+module _ (b : HeldBoard) (h : Reached b) (u v : ℕ) (r : Handed) (x : List ℕ) (t : Tells r x (outcome b (turns u v))) (d : r.reply ≡ Ok Done) where
   -- the rules say that the turn is done
   turn_done : (step (board_of b) (turns u v)).reply ≡ done
   unfolding reply_of
@@ -117,7 +120,7 @@ module _ (b : HeldBoard) (h : Reached b) (u v : ℕ) (r : Handed) (x : List ℕ)
 
   -- where the rules then give the board back for a turn of m and n, that call is done and hands back the very board
   restored : (m n : ℕ) → ((o : SizedJob) (p : Plan) → board_of b ≡ holding o p → Restored (holding o p) (step (step (holding o p) (turns u v)).board (turns m n)))
-      → (s : Handed) (y : List ℕ) → Tells s y (outcome r.board (turns m n)) → (s.reply ≡ Done) × (s.board ≡ b)
+      → (s : Handed) (y : List ℕ) → Tells s y (outcome r.board (turns m n)) → (s.reply ≡ Ok Done) × (s.board ≡ b)
   restored m n back s y q = go (board_of b) refl
     where
       no_turn : {X : Type 0} → (step empty (turns u v)).reply ≡ done → X
@@ -126,7 +129,7 @@ module _ (b : HeldBoard) (h : Reached b) (u v : ℕ) (r : Handed) (x : List ℕ)
       a : AsRules r.board (turns m n) s y
       a = reached_step r.board (called (turns u v) r x h t) (turns m n) s y q
 
-      go : (c : Board) → board_of b ≡ c → (s.reply ≡ Done) × (s.board ≡ b)
+      go : (c : Board) → board_of b ≡ c → (s.reply ≡ Ok Done) × (s.board ≡ b)
       go empty e = no_turn (ap (λ (c : Board). (step c (turns u v)).reply) (sym e) ∙ turn_done)
       go (holding o p) e =
           let k : board_of r.board ≡ (step (holding o p) (turns u v)).board
@@ -142,11 +145,11 @@ module _ (b : HeldBoard) (h : Reached b) (u v : ℕ) (r : Handed) (x : List ℕ)
   done_of o p e = ap (λ (c : Board). (step c (turns u v)).reply) (sym e) ∙ turn_done
 
   -- made again with the rooms in the same order
-  pub turned_again : (s : Handed) (y : List ℕ) → Tells s y (outcome r.board (turns u v)) → (s.reply ≡ Done) × (s.board ≡ b)
+  pub turned_again : (s : Handed) (y : List ℕ) → Tells s y (outcome r.board (turns u v)) → (s.reply ≡ Ok Done) × (s.board ≡ b)
   turned_again = restored u v (λ o p e. (turn_turn o p u v (board_sound b (reached_stands b h) o p e) (done_of o p e)).0)
 
   -- made again with the rooms in the other order
-  pub turned_back : (s : Handed) (y : List ℕ) → Tells s y (outcome r.board (turns v u)) → (s.reply ≡ Done) × (s.board ≡ b)
+  pub turned_back : (s : Handed) (y : List ℕ) → Tells s y (outcome r.board (turns v u)) → (s.reply ≡ Ok Done) × (s.board ≡ b)
   turned_back = restored v u (λ o p e. (turn_turn o p u v (board_sound b (reached_stands b h) o p e) (done_of o p e)).1)
 
 -- a sound job, written and loaded into any board, is held again with its plan
@@ -163,8 +166,8 @@ unfolding outcome as_rules
 load_reply c bs s y q = (q.reply, q.board)
 
 -- DEMAND 2: WHAT IS WRITTEN OUT AND LOADED, into any board, gives the very board that it was written from
-pub written_loaded : (b : HeldBoard) → Reached b → (buf : List ℕ) (r : Handed) (x : List ℕ) (n : ℕ) → Tells r x (outcome b (writes_job buf)) → r.reply ≡ Wrote n
-    → (c : HeldBoard) (s : Handed) (y : List ℕ) → Tells s y (outcome c (loads (take n x))) → (s.reply ≡ Done) × (s.board ≡ b)
+pub written_loaded : (b : HeldBoard) → Reached b → (buf : List ℕ) (r : Handed) (x : List ℕ) (n : ℕ) → Tells r x (outcome b (writes_job buf)) → r.reply ≡ Ok (Wrote n)
+    → (c : HeldBoard) (s : Handed) (y : List ℕ) → Tells s y (outcome c (loads (take n x))) → (s.reply ≡ Ok Done) × (s.board ≡ b)
 written_loaded b h buf r x n t d c s y q = go (board_of b) refl
   where
     a : AsRules b (writes_job buf) r x
@@ -176,7 +179,7 @@ written_loaded b h buf r x n t d c s y q = go (board_of b) refl
     no_write : {X : Type 0} → (step empty (writes_job buf)).reply ≡ wrote n → X
     no_write e = let z : ◌≡◌ {A = ℕ} 0 1 = unfold step refuse in cc in absurd (omega arith)
 
-    go : (k : Board) → board_of b ≡ k → (s.reply ≡ Done) × (s.board ≡ b)
+    go : (k : Board) → board_of b ≡ k → (s.reply ≡ Ok Done) × (s.board ≡ b)
     go empty e = no_write (ap (λ (k : Board). (step k (writes_job buf)).reply) (sym e) ∙ wrote_so)
     go (holding o p) e =
         let w = wrote_job o p buf n (ap (λ (k : Board). (step k (writes_job buf)).reply) (sym e) ∙ wrote_so) in

@@ -15,9 +15,8 @@ use Rattle.stars.specs.declared.Stars.{Stars}
 use Rattle.stars.specs.declared.Sizes.{Sizes as HeldSizes}
 use Rattle.stars.specs.Held.{job_of}
 use Rattle.stars.specs.Sized.{sizes_in, sizes_of}
-use Rattle.drawing.specs.declared.Answer.TheVariants.{Drawn, Refused as Undrawn}
+use Rattle.std.specs.Prelude.{Option, Some, None, Ok}
 use Rattle.drawing.specs.declared.Plan.{Plan as HeldPlan}
-use Rattle.drawing.specs.declared.Drawing.{Drawing}
 use Rattle.drawing.specs.Rects.{plan_in, plan_from, held_plan}
 use Rattle.drawing.specs.Drawn.{kept}
 use Rattle.registers.specs.declared.Register.{Register}
@@ -140,53 +139,65 @@ module _ (z : Sizes) (held next : Slimmer) (e : next ≡ once_slim z held) where
 
 -- ---- one round, as the code comes by it
 
-module _ (held : Slim) (sizes : HeldSizes) (told : ℕ) (is : told ≡ sizes.told) (d : Drawing) (ks : List ℕ)
-    (so : Rounds d ks (stars_of held.stars.count held.stars.ends held.stars.nbr held.stars.kind) (sizes_in told sizes.list)
-    (plan_across held.plan.rooms held.plan.width held.plan.rects)) where
+-- stars lent part by part are the stars
+pub stars_same : (c : ℕ) (ends nbr kind : List ℕ) (s : Stars) → (c ≡ s.count) × (ends ≡ s.ends) × (nbr ≡ s.nbr) × (kind ≡ s.kind) → stars_of c ends nbr kind ≡ s
+stars_same c ends nbr kind s e = rw (e.0, e.1, e.2, e.3)
+
+-- so is a plan, but for its height
+pub plan_same : (r w h : ℕ) (l : List ℕ) (p : HeldPlan) → (r ≡ p.rooms) × (w ≡ p.width) × (h ≡ p.height) × (l ≡ p.rects) → plan_across r w l ≡ plan_across p.rooms p.width p.rects
+plan_same r w h l p e = rw (e.0, e.1, e.3)
+
+module _ (held : Slim) (sizes : HeldSizes) (h : Stars) (z : Sizes) (q : HeldPlan) (eh : h ≡ held.stars) (ez : z ≡ sizes_of sizes)
+    (eq : q ≡ plan_across held.plan.rooms held.plan.width held.plan.rects) (d : Option HeldPlan) (ks : List ℕ) (so : Rounds d ks h z q) where
   -- what it searches
   abbrev search_of : Search
   search_of = first_slims held.stars (sizes_of sizes) held.plan
 
+  round_so : Rounds d ks held.stars (sizes_of sizes) (plan_across held.plan.rooms held.plan.width held.plan.rects)
+  round_so = rw (eh, ez, eq) at so
+
   drew : d ≡ found_drawing held.stars (sizes_of sizes) search_of
-  unfolding sizes_of
-  drew = rw (is, any_height held.stars (sizes_in sizes.told sizes.list) held.plan) at so.answers
+  drew = rw (any_height held.stars (sizes_of sizes) held.plan) at round_so.answers
 
   left : ks ≡ found_kinds held.stars search_of
-  unfolding sizes_of
-  left = rw (is, any_height held.stars (sizes_in sizes.told sizes.list) held.plan) at so.leaves
+  left = rw (any_height held.stars (sizes_of sizes) held.plan) at round_so.leaves
 
-  -- the two answers differ
-  not_both : (k : ℕ) → Undrawn k ≡ Drawn → ⊥
-  not_both k e = let z : ◌≡◌ {A = ℕ} 0 1 = cc in omega arith
+  -- none is not some
+  not_both : {p : HeldPlan} → ◌≡◌ {A = Option HeldPlan} None (Some p) → ⊥
+  not_both e = let z : ◌≡◌ {A = ℕ} 0 1 = cc in omega arith
+
+  -- plans that are there are one where the answers are equal
+  some_same : {p r : HeldPlan} → ◌≡◌ {A = Option HeldPlan} (Some p) (Some r) → p ≡ r
+  some_same e = cc
 
   -- a pair found: it is turned
-  pub once_turns : d.answer ≡ Drawn
-      → slim_in (record { stars = record { count = held.stars.count; ends = held.stars.ends; nbr = held.stars.nbr; kind = ks }; plan = d.plan; turns = held.turns + 1 })
+  pub once_turns : (p : HeldPlan) → d ≡ Some p
+      → slim_in (record { stars = record { count = held.stars.count; ends = held.stars.ends; nbr = held.stars.nbr; kind = ks }; plan = p; turns = held.turns + 1 })
       ≡ once_slim (sizes_of sizes) (slim_in held)
   unfolding once_slim swung_slim found_drawing found_kinds turned_stars
-  once_turns a = go search_of drew left
+  once_turns p a = go search_of (sym a ∙ drew) left
     where
-      go : (x : Search) → d ≡ found_drawing held.stars (sizes_of sizes) x → ks ≡ found_kinds held.stars x
-          → ◌≡◌ {A = Slimmer} (record { stars = record { count = held.stars.count; ends = held.stars.ends; nbr = held.stars.nbr; kind = ks }; plan = d.plan; turns = held.turns + 1 })
+      go : (x : Search) → Some p ≡ found_drawing held.stars (sizes_of sizes) x → ks ≡ found_kinds held.stars x
+          → ◌≡◌ {A = Slimmer} (record { stars = record { count = held.stars.count; ends = held.stars.ends; nbr = held.stars.nbr; kind = ks }; plan = p; turns = held.turns + 1 })
           (swung_slim (sizes_of sizes) (slim_in held) x)
-      go nothing e f = absurd (not_both 0 (sym (ap (λ (d : Drawing). d.answer) e) ∙ a))
-      go (pair u v) e f = same_slim (ap (λ (ks : List ℕ). stars_of held.stars.count held.stars.ends held.stars.nbr ks) f) (ap (λ (d : Drawing). d.plan) e) refl
+      go nothing e f = absurd (not_both (sym e))
+      go (pair u v) e f = same_slim (ap (λ (ks : List ℕ). stars_of held.stars.count held.stars.ends held.stars.nbr ks) f) (some_same e) refl
 
   -- none found: all stays
-  pub once_stops : (k : ℕ) → d.answer ≡ Undrawn k → slim_in held ≡ once_slim (sizes_of sizes) (slim_in held)
+  pub once_stops : d ≡ None → slim_in held ≡ once_slim (sizes_of sizes) (slim_in held)
   unfolding once_slim swung_slim found_drawing
-  once_stops k a = go search_of drew
+  once_stops a = go search_of (sym a ∙ drew)
     where
-      go : (x : Search) → d ≡ found_drawing held.stars (sizes_of sizes) x → slim_in held ≡ swung_slim (sizes_of sizes) (slim_in held) x
+      go : (x : Search) → None ≡ found_drawing held.stars (sizes_of sizes) x → slim_in held ≡ swung_slim (sizes_of sizes) (slim_in held) x
       go nothing e = refl
-      go (pair u v) e = absurd (not_both k (sym a ∙ ap (λ (d : Drawing). d.answer) e))
+      go (pair u v) e = absurd (not_both e)
 
 -- ---- what the call answers
 
 -- what a narrowing left, held
-pub slim_held : (b : HeldBoard) (r : Slim) (g : Register) → g ≡ kept_register (kept_walls (plan_from r.plan.width r.plan.height (r.plan.rooms + 4) r.plan.rects))
+pub slim_held : (b : HeldBoard) (r : Slim) (g : Register) → g ≡ kept_register (kept_walls (plan_in r.plan))
     → record { stars = r.stars; sizes = b.sizes; plan = r.plan; register = g } ≡ slim_board b (slim_in r)
-unfolding slim_board plan_in
+unfolding slim_board
 slim_held b r g e = rw e
 
 module _ (b : HeldBoard) (n : b.stars.count ≡ 0 → ⊥) (r : Slim)
@@ -197,11 +208,11 @@ module _ (b : HeldBoard) (n : b.stars.count ≡ 0 → ⊥) (r : Slim)
   slim_is = same_slim refl refl (omega arith) ∙ sym e
 
   -- no turn: the very board
-  pub narrow_none : r.turns ≡ 0 → Tells (record { board = b; reply = Made 0 }) [] (outcome b narrows)
+  pub narrow_none : r.turns ≡ 0 → Tells (record { board = b; reply = Ok (Made 0) }) [] (outcome b narrows)
   unfolding outcome slimmed_to reply_of
   narrow_none t = rw (ne_eqb b.stars.count 0 n, slim_is, t) (record { reply = refl; board = refl; buffer = refl })
 
   -- some turns: what the last of them left
-  pub narrow_some : (r.turns ≡ 0 → ⊥) → (c : HeldBoard) → c ≡ slim_board b (slim_in r) → Tells (record { board = c; reply = Made r.turns }) [] (outcome b narrows)
+  pub narrow_some : (r.turns ≡ 0 → ⊥) → (c : HeldBoard) → c ≡ slim_board b (slim_in r) → Tells (record { board = c; reply = Ok (Made r.turns) }) [] (outcome b narrows)
   unfolding outcome slimmed_to reply_of
   narrow_some t c k = rw (ne_eqb b.stars.count 0 n, slim_is, ne_eqb r.turns 0 t) (record { reply = refl; board = k; buffer = refl })

@@ -1,5 +1,5 @@
 -- What a board holds, and what a call hands back. Assumes nothing.
-use Rattle.std.specs.Prelude.{ℕ, ◌+◌, ◌≡◌, true, cond, List, [], eqb}
+use Rattle.std.specs.Prelude.{ℕ, ◌+◌, ◌≡◌, true, cond, List, [], eqb, Result, Ok, Err}
 use Rattle.floor.specs.Jobs.{Sizes, SizedJob, sized_job}
 use Rattle.floor.specs.Plans.{Plan, Answer, refused, held, write_plan}
 use Rattle.floor.specs.Registers.{write_register}
@@ -7,21 +7,22 @@ use Rattle.floor.specs.Cuts.{is_tree}
 use Rattle.floor.specs.Calls.{Board, empty, holding, Call, loads, turns, narrows, rectangle, touches, writes_job, writes_plan, writes_register, slices, writes_cuts}
 use Rattle.floor.specs.Calls.{Reply, refusal, done, spans, touch, says, wrote, made, Step, refuse, asks, step}
 use Rattle.floor.specs.Narrow.{Search, nothing, pair}
+use Rattle.refusals.specs.declared.Refusal.{Refusal}
+use Rattle.refusals.specs.Numbers.{number_of}
 use Rattle.fields.specs.Writes.{writing}
 use Rattle.stars.specs.declared.Stars.{Stars}
 use Rattle.stars.specs.Held.{job_of, no_stars, held_of}
 use Rattle.stars.specs.Sized.{sizes_of, no_sizes, held_sizes}
 use Rattle.drawing.specs.Rects.{rect_in, touch_in, plan_in, in_bytes, no_plan, held_plan}
-use Rattle.drawing.specs.Drawn.{numbered_any, said, kept as plan_kept}
+use Rattle.drawing.specs.Drawn.{numbered_any, kept as plan_kept}
 use Rattle.registers.specs.Sorting.{kept_walls}
 use Rattle.registers.specs.Kept.{no_register, kept_register, register_in}
 use Rattle.cuts.specs.Runs.{tree_bytes, cut_tree, writing as writing_cuts}
 use Rattle.turns.specs.InPlace.{Swing, stops, swings, swing_of, two_put}
 use Rattle.narrowing.specs.Slims.{turned_stars, tried, first_slims, Slimmer, slimmed}
 use Rattle.board.specs.declared.Board.{Board as HeldBoard}
-use Rattle.board.specs.declared.Planned.{Planned}
 use Rattle.board.specs.declared.Reply.{Reply as Said}
-use Rattle.board.specs.declared.Reply.TheVariants.{Refused, Done, Spans, Touched, Says, Wrote, Made}
+use Rattle.board.specs.declared.Reply.TheVariants.{Done, Spans, Touched, Says, Wrote, Made}
 use Rattle.board.specs.declared.Slim.{Slim}
 use Rattle.board.specs.declared.Step.{Step as Handed}
 
@@ -46,20 +47,25 @@ unfoldable pub kept : Answer → HeldBoard
 kept (refused k) = no_board
 kept (held o p) = board_for o p
 
--- a job planned tells what loading it comes to, and keeps the board of it
-pub record Plans (r : Planned) (x : Answer) : Type 0 where
-  pub says : said r.answer (held_job r.board) (plan_in r.board.plan) ≡ x
-  pub keeps : r.board ≡ kept x
+-- what a job planned says: the job and the plan of its board, held, or the number of the test that fails
+unfoldable pub said : Result HeldBoard Refusal → Answer
+said (Ok b) = held (held_job b) (plan_in b.plan)
+said (Err k) = refused (number_of k)
+
+-- a job planned tells what loading it comes to, and gives the very board that is kept of it
+pub record Plans (r : Result HeldBoard Refusal) (x : Answer) : Type 0 where
+  pub says : said r ≡ x
+  pub keeps : (b : HeldBoard) → r ≡ Ok b → b ≡ kept x
 
 -- WHAT A REPLY SAYS: a refusal's number, done, the rectangle, how two touch, yes or no, the length written, the turns made
-unfoldable pub reply_of : Said → Reply
-reply_of (Refused k) = refusal k
-reply_of Done = done
-reply_of (Spans r) = spans (rect_in r)
-reply_of (Touched t) = touch (touch_in t)
-reply_of (Says t) = says t
-reply_of (Wrote n) = wrote n
-reply_of (Made n) = made n
+unfoldable pub reply_of : Result Said Refusal → Reply
+reply_of (Err k) = refusal (number_of k)
+reply_of (Ok Done) = done
+reply_of (Ok (Spans r)) = spans (rect_in r)
+reply_of (Ok (Touched t)) = touch (touch_in t)
+reply_of (Ok (Says t)) = says t
+reply_of (Ok (Wrote n)) = wrote n
+reply_of (Ok (Made n)) = made n
 
 -- the board that comes back from a call: a new one where a job and plan are newly held, and else the very board that went in
 unfoldable pub handed : HeldBoard → Reply → Board → HeldBoard
@@ -88,8 +94,8 @@ unfoldable pub staying : HeldBoard → ℕ → Outcome
 staying b k = record { board = b; reply = refusal k; buffer = [] }
 
 -- the same, as it is handed back
-abbrev pub stayed : HeldBoard → ℕ → Handed
-stayed b k = record { board = b; reply = Refused k }
+abbrev pub stayed : HeldBoard → Refusal → Handed
+stayed b k = record { board = b; reply = Err k }
 
 -- these stars numbered: held with the sizes as they were, their plan and its walls, counted afresh, or all stays as it was
 unfoldable pub newly : HeldBoard → Stars → Answer → Outcome

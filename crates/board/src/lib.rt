@@ -3,14 +3,17 @@
 
 ghost use Rattle.std.specs.Prelude.{◌≡◌, []};
 ghost use Rattle.floor.specs.Calls.{load, loads, turns, narrows, rectangle, touches, writes_job, writes_plan, writes_register, slices, writes_cuts};
-ghost use Rattle.drawing.specs.declared.Answer.TheVariants.{Refused};
 ghost use Rattle.floor.specs.Jobs.{sized_job};
 ghost use Rattle.stars.specs.Held.{job_of};
 ghost use Rattle.stars.specs.Sized.{sizes_of};
-ghost use Rattle.drawing.specs.Drawn.{numbered_any, drawn_any, Draws};
+ghost use Rattle.drawing.specs.Rects.{plan_in};
+ghost use Rattle.registers.specs.Sorting.{kept_walls};
+ghost use Rattle.registers.specs.Kept.{kept_register};
+ghost use Rattle.drawing.specs.Drawn.{numbered_any};
 ghost use Rattle.board.specs.Boards.{no_board, Plans, stayed, newly, slim_in, slim_board, outcome, Tells};
 
-use drawing::{Drawing, Plan, Rect, Touch};
+use drawing::{Plan, Rect, Touch};
+use refusals::Refusal;
 use registers::Register;
 use stars::{Sizes, Stars};
 
@@ -26,13 +29,6 @@ pub struct Board {
     pub register: Register,
 }
 
-// A job planned: the answer of tests 1 to 6, 17, 7, 18 and 9, and the board of it, none where it is refused.
-#[derive(Clone, Copy)]
-pub struct Planned {
-    pub answer: drawing::Answer,
-    pub board: Board,
-}
-
 // What is held while a floor is narrowed: the stars and their plan, and the turns made.
 #[derive(Clone, Copy)]
 pub struct Slim {
@@ -41,10 +37,9 @@ pub struct Slim {
     pub turns: usize,
 }
 
-// What a call answers; a refusal is its number only.
+// What a call answers that is not refused.
 #[derive(Clone, Copy)]
 pub enum Reply {
-    Refused(u8),
     Done,
     Spans(Rect),
     Touched(Touch),
@@ -53,63 +48,40 @@ pub enum Reply {
     Made(usize),
 }
 
-// What comes back from a call: the board and the answer.
+// What comes back from a call: the board and the answer, or the refusal. The board comes back either way, so it stands beside the Result.
 #[derive(Clone, Copy)]
 pub struct Step {
     pub board: Board,
-    pub reply: Reply,
+    pub reply: Result<Reply, Refusal>,
 }
 
 // A board that holds nothing.
 pub fn empty() -> Board
     ensures { result ≡ no_board }
 {
-    let stars = stars::held::none_held();
-    let sizes = stars::least::none_told();
-    let plan = drawing::no_plan();
-    let register = registers::no_register();
     Board {
-        stars: stars,
-        sizes: sizes,
-        plan: plan,
-        register: register,
+        stars: stars::held::none_held(),
+        sizes: stars::least::none_told(),
+        plan: drawing::no_plan(),
+        register: registers::no_register(),
     }
 }
 
-// A test failed.
-fn refused(k: u8) -> Planned
-    ensures { (result.answer ≡ Refused k) × (result.board ≡ no_board) }
+// The walls of a plan, counted from its rectangles.
+fn counted(plan: &Plan) -> Register
+    ensures { result ≡ kept_register (kept_walls (plan_in plan.now)) }
 {
-    let none = empty();
-    Planned {
-        answer: drawing::Answer::Refused(k),
-        board: none,
-    }
-}
-
-// Held stars numbered and drawn with their least sizes: tests 7, 18 and 9.
-fn draw_stars(stars: Stars, sizes: Sizes) -> Drawing
-    ensures { Draws result (sized_job (job_of stars) (sizes_of sizes)) (drawn_any (sized_job (job_of stars) (sizes_of sizes))) }
-{
-    let count = fields::wide(stars.count);
-    let told = fields::wide(sizes.told);
-    drawing::draw(
-        &stars.ends,
-        &stars.nbr,
-        &stars.kind,
-        count,
-        told,
-        &sizes.list,
-    )
+    registers::register_of(&plan.rects, plan.rooms, plan.width, plan.height)
 }
 
 // A refusal: the very board comes back.
-fn stays(board: Board, k: u8) -> Step
+#[tactic(auto, unfolding(crate::specs::Boards::stayed))]
+fn stays(board: Board, k: Refusal) -> Step
     ensures { result ≡ stayed board k }
 {
     Step {
-        board: board,
-        reply: Reply::Refused(k),
+        board,
+        reply: Err(k),
     }
 }
 
@@ -117,31 +89,17 @@ fn stays(board: Board, k: u8) -> Step
 fn hold_numbered(kept: Board, next: Stars) -> Step
     ensures { Tells result [] (newly kept next (numbered_any (sized_job (job_of next) (sizes_of kept.sizes)))) }
 {
-    let count = fields::wide(next.count);
-    let sizes = kept.sizes;
-    let told = fields::wide(sizes.told);
-    let drawing = drawing::plan_stars(&next.ends, &next.nbr, &next.kind, count, told, &sizes.list);
-    let fresh = drawing.plan;
-    let drawn = drawing.answer;
-    match drawn {
-        drawing::Answer::Drawn => {
-            let counted = registers::register_of(
-                &fresh.rects,
-                fresh.rooms,
-                fresh.width,
-                fresh.height,
-            );
-            Step {
-                board: Board {
-                    stars: next,
-                    sizes: sizes,
-                    plan: fresh,
-                    register: counted,
-                },
-                reply: Reply::Done,
-            }
-        }
-        drawing::Answer::Refused(k) => stays(kept, k),
+    match drawing::plan_stars(&next.lent(), &kept.sizes.lent()) {
+        Ok(plan) => Step {
+            board: Board {
+                stars: next,
+                sizes: kept.sizes,
+                plan,
+                register: counted(&plan),
+            },
+            reply: Ok(Reply::Done),
+        },
+        Err(k) => stays(kept, k),
     }
 }
 
@@ -149,54 +107,26 @@ fn hold_numbered(kept: Board, next: Stars) -> Step
 fn hold_slim(kept: Board, slim: Slim) -> Board
     ensures { result ≡ slim_board kept (slim_in slim) }
 {
-    let stars = slim.stars;
-    let sizes = kept.sizes;
-    let plan = slim.plan;
-    let walls = registers::register_of(&plan.rects, plan.rooms, plan.width, plan.height);
     Board {
-        stars: stars,
-        sizes: sizes,
-        plan: plan,
-        register: walls,
+        stars: slim.stars,
+        sizes: kept.sizes,
+        plan: slim.plan,
+        register: counted(&slim.plan),
     }
 }
 
 // A job's bytes planned: tests 1 to 6, 17, 7, 18 and 9; the walls of its plan are counted.
-pub fn plan_job(job: &[u8]) -> Planned
+pub fn plan_job(job: &[u8]) -> Result<Board, Refusal>
     ensures { Plans result (load job.now) }
 {
-    let read = jobs::read_job(job);
-    let stars = read.stars;
-    let sizes = read.sizes;
-    let answer = read.answer;
-    match answer {
-        jobs::Answer::Passed => {
-            let drawing = draw_stars(stars, sizes);
-            let plan = drawing.plan;
-            let drawn = drawing.answer;
-            match drawn {
-                drawing::Answer::Drawn => {
-                    let register = registers::register_of(
-                        &plan.rects,
-                        plan.rooms,
-                        plan.width,
-                        plan.height,
-                    );
-                    Planned {
-                        answer: drawing::Answer::Drawn,
-                        board: Board {
-                            stars: stars,
-                            sizes: sizes,
-                            plan: plan,
-                            register: register,
-                        },
-                    }
-                }
-                drawing::Answer::Refused(k) => refused(k),
-            }
-        }
-        jobs::Answer::Refused(k) => refused(k),
-    }
+    let read = jobs::read_job(job)?;
+    let plan = drawing::draw(&read.stars.lent(), &read.sizes.lent())?;
+    Ok(Board {
+        stars: read.stars,
+        sizes: read.sizes,
+        plan,
+        register: counted(&plan),
+    })
 }
 
 impl Board {
@@ -204,16 +134,12 @@ impl Board {
     pub fn load(self, job: &[u8]) -> Step
         ensures { Tells result [] (outcome self (loads job.now)) }
     {
-        let old = self;
-        let planned = plan_job(job);
-        let fresh = planned.board;
-        let answer = planned.answer;
-        match answer {
-            drawing::Answer::Drawn => Step {
-                board: fresh,
-                reply: Reply::Done,
+        match plan_job(job) {
+            Ok(board) => Step {
+                board,
+                reply: Ok(Reply::Done),
             },
-            drawing::Answer::Refused(k) => stays(old, k),
+            Err(k) => stays(self, k),
         }
     }
 
@@ -222,31 +148,20 @@ impl Board {
         ensures { Tells result [] (outcome self (turns u v)) }
     {
         if self.stars.count == 0 {
-            return stays(self, 10);
+            return stays(self, Refusal::NothingHeld);
         }
         let stars = self.stars;
         let mut kind = stars.kind;
-        let swing = turns::turn_held(
+        match turns::turn_held(
             &mut kind,
             &stars.ends,
             &stars.nbr,
-            fields::wide(stars.count),
+            usize::from(stars.count),
             u,
             v,
-        );
-        match swing {
-            turns::Swing::Stops(k) => stays(self, k),
-            turns::Swing::Swings(_, _, _) => {
-                let ends = stars.ends;
-                let nbr = stars.nbr;
-                let next = Stars {
-                    count: stars.count,
-                    ends: ends,
-                    nbr: nbr,
-                    kind: kind,
-                };
-                hold_numbered(self, next)
-            }
+        ) {
+            Ok(_) => hold_numbered(self, Stars { kind, ..stars }),
+            Err(k) => stays(self, k),
         }
     }
 
@@ -255,29 +170,25 @@ impl Board {
         ensures { Tells result [] (outcome self narrows) }
     {
         if self.stars.count == 0 {
-            return stays(self, 10);
+            return stays(self, Refusal::NothingHeld);
         }
-        let stars = self.stars;
-        let sizes = self.sizes;
-        let plan = self.plan;
         let slim = rounds::all(
             Slim {
-                stars: stars,
-                plan: plan,
+                stars: self.stars,
+                plan: self.plan,
                 turns: 0,
             },
-            sizes,
+            self.sizes,
         );
         if slim.turns == 0 {
             return Step {
                 board: self,
-                reply: Reply::Made(0),
+                reply: Ok(Reply::Made(0)),
             };
         }
-        let board = hold_slim(self, slim);
         Step {
-            board: board,
-            reply: Reply::Made(slim.turns),
+            board: hold_slim(self, slim),
+            reply: Ok(Reply::Made(slim.turns)),
         }
     }
 
@@ -286,15 +197,14 @@ impl Board {
         ensures { Tells result [] (outcome self (rectangle v)) }
     {
         if self.stars.count == 0 {
-            return stays(self, 10);
+            return stays(self, Refusal::NothingHeld);
         }
         if !questions::vertex(self.stars.count, v) {
-            return stays(self, 13);
+            return stays(self, Refusal::NoVertex);
         }
-        let rect = drawing::rectangle(&self.plan.rects, self.plan.rooms, v);
         Step {
             board: self,
-            reply: Reply::Spans(rect),
+            reply: Ok(Reply::Spans(self.plan.lent().rectangle(v))),
         }
     }
 
@@ -303,15 +213,14 @@ impl Board {
         ensures { Tells result [] (outcome self (touches u v)) }
     {
         if self.stars.count == 0 {
-            return stays(self, 10);
+            return stays(self, Refusal::NothingHeld);
         }
         if !questions::two_vertices(self.stars.count, u, v) {
-            return stays(self, 13);
+            return stays(self, Refusal::NoVertex);
         }
-        let touch = questions::two_touch(&self.plan.rects, self.plan.rooms, u, v);
         Step {
             board: self,
-            reply: Reply::Touched(touch),
+            reply: Ok(Reply::Touched(questions::two_touch(&self.plan.lent(), u, v))),
         }
     }
 
@@ -320,22 +229,11 @@ impl Board {
         ensures { Tells result out.new (outcome self (writes_job out.old)) }
     {
         if self.stars.count == 0 {
-            return stays(self, 10);
+            return stays(self, Refusal::NothingHeld);
         }
-        let written = jobs::write_job(
-            &self.stars.ends,
-            &self.stars.nbr,
-            &self.stars.kind,
-            self.stars.count,
-            self.sizes.told,
-            &self.sizes.list,
-            out,
-        );
-        let reply = questions::written_reply(written);
-        Step {
-            board: self,
-            reply: reply,
-        }
+        let written = jobs::write_job(&self.stars.lent(), &self.sizes.lent(), out);
+        let reply = questions::wrote(written);
+        Step { board: self, reply }
     }
 
     // The held plan written to the front of a lent buffer: 10, 14.
@@ -343,20 +241,11 @@ impl Board {
         ensures { Tells result out.new (outcome self (writes_plan out.old)) }
     {
         if self.stars.count == 0 {
-            return stays(self, 10);
+            return stays(self, Refusal::NothingHeld);
         }
-        let written = drawing::write_plan(
-            self.plan.width,
-            self.plan.height,
-            self.plan.rooms,
-            &self.plan.rects,
-            out,
-        );
-        let reply = questions::written_reply(written);
-        Step {
-            board: self,
-            reply: reply,
-        }
+        let written = self.plan.lent().write(out);
+        let reply = questions::wrote(written);
+        Step { board: self, reply }
     }
 
     // The register of walls, written to the front of a lent buffer: 10, 14.
@@ -364,7 +253,7 @@ impl Board {
         ensures { Tells result out.new (outcome self (writes_register out.old)) }
     {
         if self.stars.count == 0 {
-            return stays(self, 10);
+            return stays(self, Refusal::NothingHeld);
         }
         let written = registers::write_register(
             &self.register.rows,
@@ -372,11 +261,8 @@ impl Board {
             self.register.many,
             out,
         );
-        let reply = questions::written_reply(written);
-        Step {
-            board: self,
-            reply: reply,
-        }
+        let reply = questions::wrote(written);
+        Step { board: self, reply }
     }
 
     // Whether the held floor can be cut straight: 10.
@@ -384,7 +270,7 @@ impl Board {
         ensures { Tells result [] (outcome self slices) }
     {
         if self.stars.count == 0 {
-            return stays(self, 10);
+            return stays(self, Refusal::NothingHeld);
         }
         let yes = cuts::sliceable(
             &self.plan.rects,
@@ -394,7 +280,7 @@ impl Board {
         );
         Step {
             board: self,
-            reply: Reply::Says(yes),
+            reply: Ok(Reply::Says(yes)),
         }
     }
 
@@ -403,7 +289,7 @@ impl Board {
         ensures { Tells result out.new (outcome self (writes_cuts out.old)) }
     {
         if self.stars.count == 0 {
-            return stays(self, 10);
+            return stays(self, Refusal::NothingHeld);
         }
         let written = cuts::write_cuts(
             &self.plan.rects,
@@ -412,10 +298,7 @@ impl Board {
             self.plan.height,
             out,
         );
-        let reply = questions::cuts_reply(written);
-        Step {
-            board: self,
-            reply: reply,
-        }
+        let reply = questions::wrote(written);
+        Step { board: self, reply }
     }
 }

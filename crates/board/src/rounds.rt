@@ -4,48 +4,28 @@ ghost use Rattle.stars.specs.Sized.{sizes_of};
 ghost use Rattle.board.specs.Boards.{slim_in, once_slim, slimmed_on};
 
 use crate::Slim;
-use stars::{Sizes, Stars};
+use stars::Sizes;
 
-// One round: the first pair that narrows turned, and one turn more; all as it was where there is none.
-fn once(held: Slim, sizes: Sizes) -> Slim
+// One round: the first pair that narrows turned, and one turn more; all as it was where there is none. It changes what goes in where that stands, for each copy
+// of it takes stack (tests/stack).
+fn once(mut held: Slim, sizes: Sizes) -> Slim
     requires { held.turns < 65536 }
     ensures { slim_in result ≡ once_slim (sizes_of sizes) (slim_in held) }
 {
-    let stars = held.stars;
-    let plan = held.plan;
-    let mut spare = stars.kind;
-    let told = fields::wide(sizes.told);
-    let drawing = narrowing::round(
+    let mut spare = held.stars.kind;
+    match narrowing::round(
         &mut spare,
-        &stars.ends,
-        &stars.nbr,
-        &stars.kind,
-        stars.count,
-        told,
-        &sizes.list,
-        &plan.rects,
-        plan.rooms,
-        plan.width,
-    );
-    let fresh = drawing.plan;
-    let drawn = drawing.answer;
-    match drawn {
-        drawing::Answer::Drawn => {
-            let ends = stars.ends;
-            let nbr = stars.nbr;
-            let turns = held.turns + 1;
-            Slim {
-                stars: Stars {
-                    count: stars.count,
-                    ends: ends,
-                    nbr: nbr,
-                    kind: spare,
-                },
-                plan: fresh,
-                turns: turns,
-            }
+        &held.stars.lent(),
+        &sizes.lent(),
+        &held.plan.lent(),
+    ) {
+        Some(plan) => {
+            held.stars.kind = spare;
+            held.plan = plan;
+            held.turns += 1;
+            held
         }
-        drawing::Answer::Refused(_) => held,
+        None => held,
     }
 }
 
@@ -55,6 +35,7 @@ pub fn all(first: Slim, sizes: Sizes) -> Slim
     ensures { slim_in result ≡ slimmed_on (sizes_of sizes) (slim_in first) }
 {
     let mut held = first;
+    // How many rounds there are only the last of them says.
     loop {
         let next = once(held, sizes);
         if next.turns == held.turns {

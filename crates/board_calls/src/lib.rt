@@ -4,6 +4,7 @@
 
 use board::{Board, Reply, Step};
 use drawing::{Plan, Touch};
+use refusals::Refusal;
 use registers::Register;
 use stars::{Sizes, Stars};
 
@@ -39,30 +40,30 @@ fn board_of(held: Held) -> Board {
     let ends = held.ends;
     let nbr = held.nbr;
     let kind = held.kind;
-    let sizes = held.sizes;
+    let list = held.sizes;
     let rects = held.rects;
     let rows = held.rows;
     Board {
         stars: Stars {
             count: held.count,
-            ends: ends,
-            nbr: nbr,
-            kind: kind,
+            ends,
+            nbr,
+            kind,
         },
         sizes: Sizes {
             told: held.told,
-            list: sizes,
+            list,
         },
         plan: Plan {
             rooms: held.rooms,
             width: held.width,
             height: held.height,
-            rects: rects,
+            rects,
         },
         register: Register {
             uprights: held.uprights,
             many: held.many,
-            rows: rows,
+            rows,
         },
     }
 }
@@ -72,133 +73,110 @@ fn length_of(touch: Touch) -> usize {
     let Touch::Wall(_, length) = touch else {
         return 0;
     };
-    fields::number(length)
+    usize::from(length)
 }
 
 // A refusal is its number; a rectangle is told by its left side.
-fn answer_of(reply: Reply) -> usize {
+fn answer_of(reply: Result<Reply, Refusal>) -> usize {
     match reply {
-        Reply::Refused(k) => fields::wide(k),
-        Reply::Done => 256,
-        Reply::Spans(rect) => fields::number(rect.x1),
-        Reply::Touched(touch) => length_of(touch),
-        Reply::Says(yes) => yes as usize,
-        Reply::Wrote(length) => length,
-        Reply::Made(turns) => turns,
+        Ok(Reply::Done) => 256,
+        Ok(Reply::Spans(rect)) => usize::from(rect.x1),
+        Ok(Reply::Touched(touch)) => length_of(touch),
+        Ok(Reply::Says(yes)) => usize::from(yes),
+        Ok(Reply::Wrote(length)) => length,
+        Ok(Reply::Made(turns)) => turns,
+        Err(k) => usize::from(k.number()),
     }
 }
 
 // The board that is handed back.
 fn tell(step: Step) -> Told {
     let board = step.board;
-    let reply = step.reply;
     let stars = board.stars;
-    let sizes = board.sizes;
     let plan = board.plan;
     let register = board.register;
     let ends = stars.ends;
     let nbr = stars.nbr;
     let kind = stars.kind;
-    let list = sizes.list;
+    let sizes = board.sizes.list;
     let rects = plan.rects;
     let rows = register.rows;
-    let answer = answer_of(reply);
     Told {
         held: Held {
             count: stars.count,
-            ends: ends,
-            nbr: nbr,
-            kind: kind,
-            told: sizes.told,
-            sizes: list,
+            ends,
+            nbr,
+            kind,
+            told: board.sizes.told,
+            sizes,
             rooms: plan.rooms,
             width: plan.width,
             height: plan.height,
-            rects: rects,
+            rects,
             uprights: register.uprights,
             many: register.many,
-            rows: rows,
+            rows,
         },
-        answer: answer,
+        answer: answer_of(step.reply),
     }
 }
 
 // `Board::load`.
 #[unsafe(no_mangle)]
 pub extern "C" fn board_load(held: Held, job: &[u8]) -> Told {
-    let board = board_of(held);
-    let step = board.load(job);
-    tell(step)
+    tell(board_of(held).load(job))
 }
 
 // `Board::turn`.
 #[unsafe(no_mangle)]
 pub extern "C" fn board_turn(held: Held, u: usize, v: usize) -> Told {
-    let board = board_of(held);
-    let step = board.turn(u, v);
-    tell(step)
+    tell(board_of(held).turn(u, v))
 }
 
 // `Board::narrow`.
 #[unsafe(no_mangle)]
 pub extern "C" fn board_narrow(held: Held) -> Told {
-    let board = board_of(held);
-    let step = board.narrow();
-    tell(step)
+    tell(board_of(held).narrow())
 }
 
 // `Board::rectangle`.
 #[unsafe(no_mangle)]
 pub extern "C" fn board_rectangle(held: Held, v: usize) -> Told {
-    let board = board_of(held);
-    let step = board.rectangle(v);
-    tell(step)
+    tell(board_of(held).rectangle(v))
 }
 
 // `Board::touches`.
 #[unsafe(no_mangle)]
 pub extern "C" fn board_touches(held: Held, u: usize, v: usize) -> Told {
-    let board = board_of(held);
-    let step = board.touches(u, v);
-    tell(step)
+    tell(board_of(held).touches(u, v))
 }
 
 // `Board::write_job`.
 #[unsafe(no_mangle)]
 pub extern "C" fn board_write_job(held: Held, out: &mut [u8]) -> Told {
-    let board = board_of(held);
-    let step = board.write_job(out);
-    tell(step)
+    tell(board_of(held).write_job(out))
 }
 
 // `Board::write_plan`.
 #[unsafe(no_mangle)]
 pub extern "C" fn board_write_plan(held: Held, out: &mut [u8]) -> Told {
-    let board = board_of(held);
-    let step = board.write_plan(out);
-    tell(step)
+    tell(board_of(held).write_plan(out))
 }
 
 // `Board::write_walls`.
 #[unsafe(no_mangle)]
 pub extern "C" fn board_write_walls(held: Held, out: &mut [u8]) -> Told {
-    let board = board_of(held);
-    let step = board.write_walls(out);
-    tell(step)
+    tell(board_of(held).write_walls(out))
 }
 
 // `Board::slices`.
 #[unsafe(no_mangle)]
 pub extern "C" fn board_slices(held: Held) -> Told {
-    let board = board_of(held);
-    let step = board.slices();
-    tell(step)
+    tell(board_of(held).slices())
 }
 
 // `Board::write_cuts`.
 #[unsafe(no_mangle)]
 pub extern "C" fn board_write_cuts(held: Held, out: &mut [u8]) -> Told {
-    let board = board_of(held);
-    let step = board.write_cuts(out);
-    tell(step)
+    tell(board_of(held).write_cuts(out))
 }

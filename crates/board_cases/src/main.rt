@@ -1,139 +1,81 @@
 // Boards made by hand: every call answers of what stands in them, by one total definition, and stops at none.
 #![tactic(auto)]
 
-use board::{Board, Reply};
-use drawing::Touch;
-use std::io;
+use board::{Board, Reply, Step};
+use drawing::{Rect, Touch};
+use refusals::Refusal;
+use std::{fmt, io};
 
-// A number, with a space before it.
-fn show_number(rt: &impl Print, n: usize) -> io::Result<()> {
-    print!(rt; " {n}")
-}
+// What a call answered, as text.
+#[derive(Clone, Copy)]
+struct Told(Result<Reply, Refusal>);
 
-// A rectangle: its vertex, x1, y1, x2, y2.
-fn show_rect(rt: &impl Print, rect: drawing::Rect) -> io::Result<()> {
-    show_number(rt, rect.vertex)?;
-    show_number(rt, fields::number(rect.x1))?;
-    show_number(rt, fields::number(rect.y1))?;
-    show_number(rt, fields::number(rect.x2))?;
-    show_number(rt, fields::number(rect.y2))
-}
-
-// How two vertices touch: the side and the length, or none.
-fn show_touch(rt: &impl Print, touch: Touch) -> io::Result<()> {
-    let Touch::Wall(side, length) = touch else {
-        return rt.write_all(b" none");
-    };
-    rt.write_all(b" touch")?;
-    show_number(rt, fields::wide(side))?;
-    show_number(rt, fields::number(length))
-}
-
-// Yes or no.
-fn show_yes(rt: &impl Print, yes: bool) -> io::Result<()> {
-    if yes {
-        return rt.write_all(b" yes");
-    }
-    rt.write_all(b" no")
-}
-
-// A word, and the number behind it.
-fn show_counted(rt: &impl Print, word: &[u8], n: usize) -> io::Result<()> {
-    rt.write_all(word)?;
-    show_number(rt, n)
-}
-
-// What a call answered.
-fn show_reply(rt: &impl Print, reply: Reply) -> io::Result<()> {
-    match reply {
-        Reply::Refused(k) => show_counted(rt, b" refused", fields::wide(k)),
-        Reply::Done => rt.write_all(b" done"),
-        Reply::Spans(rect) => show_rect(rt, rect),
-        Reply::Touched(touch) => show_touch(rt, touch),
-        Reply::Says(yes) => show_yes(rt, yes),
-        Reply::Wrote(length) => show_counted(rt, b" bytes", length),
-        Reply::Made(turns) => show_counted(rt, b" turns", turns),
-    }
-}
-
-// What was asked and what a call answered, on a line.
-fn show(rt: &impl Print, asked: &[u8], reply: Reply) -> io::Result<()> {
-    rt.write_all(asked)?;
-    show_reply(rt, reply)?;
-    rt.write_all(b"\n")
-}
-
-// The rectangle of a vertex.
-fn show_vertex(rt: &impl Print, asked: &[u8], board: Board, v: usize) -> io::Result<()> {
-    let step = board.rectangle(v);
-    let reply = step.reply;
-    show(rt, asked, reply)
-}
-
-// How room 5 touches room 4.
-fn show_touches(rt: &impl Print, board: Board) -> io::Result<()> {
-    let step = board.touches(4, 5);
-    let reply = step.reply;
-    show(rt, b"  5 seen from 4:", reply)
-}
-
-// One byte of what was written, with its name, where anything was.
-fn show_byte(rt: &impl Print, reply: Reply, name: &[u8], byte: u8) -> io::Result<()> {
-    match reply {
-        Reply::Wrote(_) => {
-            show_counted(rt, name, fields::wide(byte))?;
-            rt.write_all(b"\n")
+impl fmt::Display for Told {
+    fn fmt<W: fmt::Write>(&self, f: &mut fmt::Formatter<W>) -> fmt::Result {
+        match self.0 {
+            Err(why) => write!(f, "refused {}", why.number()),
+            Ok(Reply::Done) => write!(f, "done"),
+            Ok(
+                Reply::Spans(
+                    Rect {
+                        vertex,
+                        x1,
+                        y1,
+                        x2,
+                        y2,
+                    },
+                ),
+            ) => write!(f, "{vertex} {x1} {y1} {x2} {y2}"),
+            Ok(Reply::Touched(Touch::Wall(side, length))) => write!(f, "touch {side} {length}"),
+            Ok(Reply::Touched(Touch::Clear)) => write!(f, "none"),
+            Ok(Reply::Says(yes)) => write!(f, "{}", if yes { "yes" } else { "no" }),
+            Ok(Reply::Wrote(length)) => write!(f, "bytes {length}"),
+            Ok(Reply::Made(turns)) => write!(f, "turns {turns}"),
         }
-        _ => Ok(()),
     }
 }
 
-// The job, the plan and its walls, written.
-fn show_written(rt: &impl Print, board: Board) -> io::Result<()> {
-    let mut out = [0u8; 4096];
-    let first = board.write_job(&mut out);
-    let job = first.reply;
-    show(rt, b"  the job:", job)?;
-    let second = board.write_plan(&mut out);
-    let plan = second.reply;
-    show(rt, b"  the plan:", plan)?;
-    show_byte(rt, plan, b"  its width:", out[3])?;
-    let mut list = [0u8; 4096];
-    let third = board.write_walls(&mut list);
-    let walls = third.reply;
-    show(rt, b"  the walls:", walls)?;
-    show_byte(rt, walls, b"  where the first ends:", list[6])
+// What was asked and what a call answered, on a line; the board is handed on.
+fn show(rt: &impl Print, asked: &str, step: Step) -> io::Result<Board> {
+    let told = Told(step.reply);
+    println!(rt; "  {asked}: {told}")?;
+    Ok(step.board)
 }
 
-// Whether the floor can be cut straight, and its cuts, written.
-fn show_cuts(rt: &impl Print, board: Board) -> io::Result<()> {
-    let mut out = [0u8; 4096];
-    let first = board.slices();
-    let yes = first.reply;
-    show(rt, b"  cut straight:", yes)?;
-    let second = board.write_cuts(&mut out);
-    let cuts = second.reply;
-    show(rt, b"  the cuts:", cuts)?;
-    show_byte(rt, cuts, b"  where the first is:", out[4])
-}
-
-// The contact of rooms 5 and 6 turned, and the rectangle of 5 then.
-fn show_turned(rt: &impl Print, board: Board) -> io::Result<()> {
-    let step = board.turn(5, 6);
-    let next = step.board;
-    let reply = step.reply;
-    show(rt, b"  5 and 6 turned:", reply)?;
-    show_vertex(rt, b"  rectangle of 5:", next, 5)
+// What was asked and what a writing answered, and one byte of what was written, with its name, where anything was.
+fn show_written(
+    rt: &impl Print,
+    asked: &str,
+    step: Step,
+    name: &str,
+    byte: u8,
+) -> io::Result<Board> {
+    let board = show(rt, asked, step)?;
+    if let Ok(Reply::Wrote(_)) = step.reply {
+        println!(rt; "  {name}: {byte}")?;
+    }
+    Ok(board)
 }
 
 // A board, asked by every call but load.
-fn show_board(rt: &impl Print, name: &[u8], board: Board) -> io::Result<()> {
-    rt.write_all(name)?;
-    show_vertex(rt, b"  rectangle of 5:", board, 5)?;
-    show_touches(rt, board)?;
-    show_written(rt, board)?;
-    show_cuts(rt, board)?;
-    show_turned(rt, board)
+fn show_board(rt: &impl Print, name: &str, board: Board) -> io::Result<()> {
+    println!(rt; "{name}:")?;
+    show(rt, "rectangle of 5", board.rectangle(5))?;
+    show(rt, "5 seen from 4", board.touches(4, 5))?;
+    let mut out = [0u8; 4096];
+    show(rt, "the job", board.write_job(&mut out))?;
+    let plan = board.write_plan(&mut out);
+    show_written(rt, "the plan", plan, "its width", out[3])?;
+    let mut list = [0u8; 4096];
+    let walls = board.write_walls(&mut list);
+    show_written(rt, "the walls", walls, "where the first ends", list[6])?;
+    show(rt, "cut straight", board.slices())?;
+    let mut tree = [0u8; 4096];
+    let cuts = board.write_cuts(&mut tree);
+    show_written(rt, "the cuts", cuts, "where the first is", tree[4])?;
+    let turned = show(rt, "5 and 6 turned", board.turn(5, 6))?;
+    show(rt, "rectangle of 5", turned.rectangle(5))?;
+    Ok(())
 }
 
 // No room is counted: nothing is held, whatever else stands there.
@@ -145,64 +87,35 @@ fn uncounted(board: Board) -> Board {
 
 // The stars of the board, and no plan and no walls: a vertex past its rectangles lies nowhere.
 fn unplanned(board: Board) -> Board {
-    let stars = board.stars;
-    let sizes = board.sizes;
-    let none = drawing::no_plan();
-    let register = registers::no_register();
     Board {
-        stars: stars,
-        sizes: sizes,
-        plan: none,
-        register: register,
+        plan: drawing::no_plan(),
+        register: registers::no_register(),
+        ..board
     }
 }
 
 // Room 5 a cell wider, and the sheet and the first wall by 256, of which a byte is written.
 fn wider(board: Board) -> Board {
-    let stars = board.stars;
-    let sizes = board.sizes;
-    let mut plan = board.plan;
-    plan.width = 260;
-    plan.rects[22] = 4;
-    let mut register = board.register;
-    register.rows[2] = 260;
-    Board {
-        stars: stars,
-        sizes: sizes,
-        plan: plan,
-        register: register,
-    }
+    let mut next = board;
+    next.plan.width = 260;
+    next.plan.rects[22] = 4;
+    next.register.rows[2] = 260;
+    next
 }
 
 // The star of the last room ends past the arrays.
 fn overrun(board: Board) -> Board {
-    let mut stars = board.stars;
-    stars.ends[3] = 65535;
-    let sizes = board.sizes;
-    let plan = board.plan;
-    let register = board.register;
-    Board {
-        stars: stars,
-        sizes: sizes,
-        plan: plan,
-        register: register,
-    }
+    let mut next = board;
+    next.stars.ends[3] = 65535;
+    next
 }
 
 // Sizes told of more rooms than there are, the first of them no size at all: a room is then asked for a cell.
 fn sized(board: Board) -> Board {
-    let stars = board.stars;
-    let mut sizes = board.sizes;
-    sizes.told = 255;
-    sizes.list[3] = 2;
-    let plan = board.plan;
-    let register = board.register;
-    Board {
-        stars: stars,
-        sizes: sizes,
-        plan: plan,
-        register: register,
-    }
+    let mut next = board;
+    next.sizes.told = 255;
+    next.sizes.list[3] = 2;
+    next
 }
 
 // As many rooms as a byte counts, and more walls than rows.
@@ -215,19 +128,19 @@ fn crowded(board: Board) -> Board {
 }
 
 fn main(rt: HostRuntime) -> io::Result<()> {
-    let none = board::empty();
-    let step = none.load(
+    let loaded = board::empty().load(
         b"\x01\x00\x01\x04\x02\x00\x08\x00\x00\x01\x01\x06\x02\x05\x03\x02\x00\x0a\x00\x00\x04\x01\x06\x01\x07\x02\x03\x03\x02\x00\x0a\x04\x00\x01\x01\x02\x02\x07\x03\x05\x03\x02\x00\x08\x05\x00\x06\x01\x02\x02\x03\x03",
     );
-    let held = step.board;
-    show_board(&rt, b"as loaded:\n", held)?;
-    show_board(&rt, b"no room counted:\n", uncounted(held))?;
-    show_board(&rt, b"stars and no plan:\n", unplanned(held))?;
-    show_board(&rt, b"a cell wider:\n", wider(held))?;
-    show_board(&rt, b"a star ends past the arrays:\n", overrun(held))?;
-    show_board(&rt, b"more sizes than rooms:\n", sized(held))?;
+    let held = loaded.board;
+    show_board(&rt, "as loaded", held)?;
+    show_board(&rt, "no room counted", uncounted(held))?;
+    show_board(&rt, "stars and no plan", unplanned(held))?;
+    show_board(&rt, "a cell wider", wider(held))?;
+    show_board(&rt, "a star ends past the arrays", overrun(held))?;
+    show_board(&rt, "more sizes than rooms", sized(held))?;
     let many = crowded(held);
-    show_board(&rt, b"more rooms than stars:\n", many)?;
-    show_vertex(&rt, b"  rectangle of 258:", many, 258)?;
-    show_vertex(&rt, b"  rectangle of 259:", many, 259)
+    show_board(&rt, "more rooms than stars", many)?;
+    show(&rt, "rectangle of 258", many.rectangle(258))?;
+    show(&rt, "rectangle of 259", many.rectangle(259))?;
+    Ok(())
 }

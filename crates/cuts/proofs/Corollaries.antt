@@ -8,46 +8,39 @@ use lib.Dec.{leb}
 use lib.ListN.{length, take}
 use lib.Seq.{take_all}
 use native.Mathlib.Omega.{arith}
+use Rattle.std.specs.Prelude.{Result, Ok, Err}
 use Rattle.floor.specs.Jobs.{SizedJob}
 use Rattle.floor.specs.Plans.{Plan}
 use Rattle.floor.specs.Registers.{Partition, register}
-use Rattle.floor.specs.Calls.{empty, Reply, refusal, holding, says, refuse, asks, writes, writes_tree, slices, writes_cuts, step}
+use Rattle.floor.specs.Calls.{empty, Reply, holding, says, refuse, asks, writes, writes_tree, slices, writes_cuts, step}
 use Rattle.floor.specs.Calls.Sound.{Sound}
 use Rattle.floor.proofs.Calls.Bytes.{limits}
 use Rattle.floor.proofs.Calls.Registered.{held_walls}
 use Rattle.floor.proofs.Calls.Sliced.{held_capped, cuts_bytes}
 use Rattle.floor.specs.Cuts.{Tree, write_tree, rooms_of, inner, plan_tree, is_tree}
 use Rattle.floor.specs.Cuts.ByWalls.{tree_by, capped}
-use Rattle.fields.specs.Writes.{writing as written}
+use Rattle.refusals.specs.declared.Refusal.{Refusal}
+use Rattle.refusals.specs.Numbers.{number_of}
+use Rattle.refusals.proofs.Same.{same_refusal}
+use Rattle.fields.specs.Writes.{replied, writing as written}
 use Rattle.drawing.proofs.Corollaries.{bytes_kept}
 use Rattle.registers.proofs.Corollaries.{kept_right}
-use Rattle.cuts.specs.declared.Written.{Written}
-use Rattle.cuts.specs.declared.Written.TheVariants.{Wrote, TooShort, NotSliceable}
-use Rattle.cuts.specs.Runs.{tree_bytes, cut_tree, replied, writing}
-
--- refusals that say the same have one number
-one_number : {m n : ℕ} → refusal m ≡ refusal n → m ≡ n
-one_number e = cc
+use Rattle.cuts.specs.Runs.{tree_bytes, cut_tree, writing}
 
 -- answers to a writing that say the same are one
-same_reply : (a b : Written) (x : Reply) → replied a ≡ x → replied b ≡ x → a ≡ b
+same_reply : (a b : Result ℕ Refusal) (x : Reply) → replied a ≡ x → replied b ≡ x → a ≡ b
 unfolding replied
-same_reply (Wrote n) (Wrote m) x p q = let e : n ≡ m = cc in cc
-same_reply (Wrote n) TooShort x p q = absurd (let z : ◌≡◌ {A = ℕ} 0 1 = cc in omega arith)
-same_reply (Wrote n) NotSliceable x p q = absurd (let z : ◌≡◌ {A = ℕ} 0 1 = cc in omega arith)
-same_reply TooShort (Wrote m) x p q = absurd (let z : ◌≡◌ {A = ℕ} 0 1 = cc in omega arith)
-same_reply TooShort TooShort x p q = refl
-same_reply TooShort NotSliceable x p q = let z : ◌≡◌ {A = ℕ} 14 15 = one_number (p ∙ sym q) in absurd (omega arith)
-same_reply NotSliceable (Wrote m) x p q = absurd (let z : ◌≡◌ {A = ℕ} 0 1 = cc in omega arith)
-same_reply NotSliceable TooShort x p q = let z : ◌≡◌ {A = ℕ} 15 14 = one_number (p ∙ sym q) in absurd (omega arith)
-same_reply NotSliceable NotSliceable x p q = refl
+same_reply (Ok n) (Ok m) x p q = let e : n ≡ m = cc in cc
+same_reply (Ok n) (Err e) x p q = absurd (let z : ◌≡◌ {A = ℕ} 0 1 = cc in omega arith)
+same_reply (Err e) (Ok m) x p q = absurd (let z : ◌≡◌ {A = ℕ} 0 1 = cc in omega arith)
+same_reply (Err e) (Err f) x p q = ap Err (same_refusal e f (let z : number_of e ≡ number_of f = cc in z))
 
 -- THE PROMISE OF `sliceable` ALLOWS ONE ANSWER
 pub one_slices : (p : Plan) (a b : Bool) → a ≡ is_tree (cut_tree p) → b ≡ is_tree (cut_tree p) → a ≡ b
 one_slices p a b e f = e ∙ sym f
 
 -- THE PROMISE OF `write_cuts` ALLOWS ONE ANSWER AND ONE BUFFER
-pub one_cuts_writing : (p : Plan) (o : List ℕ) (a b : Written) (x y : List ℕ)
+pub one_cuts_writing : (p : Plan) (o : List ℕ) (a b : Result ℕ Refusal) (x y : List ℕ)
     → (replied a ≡ (writing (tree_bytes (cut_tree p)) o).reply) × (x ≡ (writing (tree_bytes (cut_tree p)) o).buffer)
     → (replied b ≡ (writing (tree_bytes (cut_tree p)) o).reply) × (y ≡ (writing (tree_bytes (cut_tree p)) o).buffer) → (a ≡ b) × (x ≡ y)
 one_cuts_writing p o a b x y v w = (same_reply a b (writing (tree_bytes (cut_tree p)) o).reply v.0 w.0, v.1 ∙ sym w.1)

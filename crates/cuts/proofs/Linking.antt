@@ -1,10 +1,10 @@
 -- Rooms linked by the marks of their corners, and the room that is a rectangle found by the links. Assumes nothing.
-use Prim.Native.Nat.{ℕ, zero, suc, ◌+◌, ◌-◌, ◌*◌, ◌%◌, ◌≤◌, ◌<◌}
+use Prim.Native.Nat.{ℕ, zero, suc, ◌+◌, ◌-◌, ◌*◌, ◌≤◌, ◌<◌}
 use mathlib.Core.Path.{◌≡◌, refl, sym, ap, ◌∙◌}
 use mathlib.Core.Logic.{◌⊎◌, inl, inr}
 use mathlib.Core.Bool.{Bool, true, false}
-use mathlib.Core.List.{List, [], ◌∷◌}
-use lib.Dec.{eqb}
+use Rattle.std.specs.Prelude.{Some, None}
+use mathlib.Core.List.{List, ◌∷◌}
 use lib.ListN.{length, get_or, set, replicate, length-set}
 use lib.Seq.{get_or-set_same, get_or-set_other}
 use native.Mathlib.Omega.{arith}
@@ -30,17 +30,6 @@ module _ (b : HeldRect) (l : List ℕ) (v x : ℕ) (ex : x ≡ get_or l (4 * v) 
     unfolding same_box rect_in rect_at
     box_lower h = rw (← ex, eq-eqb b.x1 x i, ← ey, ne_eqb b.y1 y h)
 
-    module _ (z : ℕ) (j : b.y1 ≡ y) (ez : z ≡ get_or l (4 * v + 2) 0) where
-      -- it ends elsewhere
-      pub box_right : (b.x2 ≡ z → ⊥) → false ≡ same_box (rect_in b) (rect_at l v)
-      unfolding same_box rect_in rect_at
-      box_right h = rw (← ex, eq-eqb b.x1 x i, ← ey, eq-eqb b.y1 y j, ← ez, ne_eqb b.x2 z h)
-
-      -- the last test
-      pub box_upper : (w : ℕ) (t : Bool) → b.x2 ≡ z → w ≡ get_or l (4 * v + 3) 0 → t ≡ eqb b.y2 w → t ≡ same_box (rect_in b) (rect_at l v)
-      unfolding same_box rect_in rect_at
-      box_upper w t k ew et = rw (← ex, eq-eqb b.x1 x i, ← ey, eq-eqb b.y1 y j, ← ez, eq-eqb b.x2 z k, ← ew) et
-
 -- THE ROOMS, one by one
 module _ (b : Rect) (l : List ℕ) (n v : ℕ) where
   -- the first of them, and the others
@@ -50,7 +39,7 @@ module _ (b : Rect) (l : List ℕ) (n v : ℕ) where
 
   -- this one is it
   pub leaf_here : (t : Bool) (w : List Rect) → v < n → t ≡ same_box b (rect_at l v) → t ≡ true → leaf_of b (rooms_from n v l) ≡ leaf_of b w
-      → v ≡ leaf_room (leaf_of b w)
+      → Some v ≡ leaf_room (leaf_of b w)
   unfolding leaf_room leaf_of rect_at
   leaf_here t w h et e inv = rw (← inv, room_next h, ← et, e)
 
@@ -61,20 +50,9 @@ module _ (b : Rect) (l : List ℕ) (n v : ℕ) where
   leaf_on t w h et e inv = let s : v + 1 ≡ suc v = omega arith in rw s (rw (room_next h, ← et, e) at inv)
 
   -- there is none
-  pub leaf_none : (w : List Rect) → n ≤ v → leaf_of b (rooms_from n v l) ≡ leaf_of b w → 0 ≡ leaf_room (leaf_of b w)
+  pub leaf_none : (w : List Rect) → n ≤ v → leaf_of b (rooms_from n v l) ≡ leaf_of b w → None ≡ leaf_room (leaf_of b w)
   unfolding leaf_room leaf_of rooms_from rects_in
   leaf_none w h inv = let z : n - v ≡ 0 = omega arith in rw (← inv, z)
-
--- a number stored past the end is not stored
-pub put_none : (l : List ℕ) (k x : ℕ) → length l ≤ k → l ≡ set l k x
-put_none [] k x h = refl
-put_none (y ∷ l) zero x h = absurd (omega arith)
-put_none (y ∷ l) (suc k) x h = ap (λ (t : List ℕ). y ∷ t) (put_none l k x (omega arith))
-
--- a corner's mark
-pub mark_is : (x y x' y' : ℕ) → x' ≡ x → y' ≡ y → (11 * x' + y') % 127 ≡ mark_of x y
-unfolding mark_of
-mark_is x y x' y' p q = rw (p, q)
 
 -- the mark of a vertex's corner
 pub corner_is : (l : List ℕ) (v x y r : ℕ) → x ≡ get_or l (4 * v) 0 → y ≡ get_or l (4 * v + 1) 0 → r ≡ mark_of x y → r ≡ corner_at l v
@@ -177,7 +155,7 @@ module _ (b : HeldRect) (l : List ℕ) (last : ℕ) where
 
   -- no room from v on has the mark of b's corner
   pub link_none : (v w : ℕ) (r : List Rect) → v ≤ last → w ≡ 0 → FirstAt l last v (mark_of b.x1 b.y1) w
-      → leaf_of (rect_in b) (rooms_from last v l) ≡ leaf_of (rect_in b) r → 0 ≡ leaf_room (leaf_of (rect_in b) r)
+      → leaf_of (rect_in b) (rooms_from last v l) ≡ leaf_of (rect_in b) r → None ≡ leaf_room (leaf_of (rect_in b) r)
   link_none v w r h z f inv =
       let e : last ≡ v + (last - v) = omega arith in
       leaf_none (rect_in b) l last last r (omega arith)
@@ -210,10 +188,10 @@ module _ (b : HeldRect) (l : List ℕ) (last : ℕ) where
     follow = let s : w + 1 ≡ suc w = omega arith in rw (s, en) (g w at.lower at.upper at.corner)
 
     -- none
-    pub follow_none : n ≤ w → 0 ≡ leaf_room (leaf_of (rect_in b) r)
+    pub follow_none : n ≤ w → None ≡ leaf_room (leaf_of (rect_in b) r)
     follow_none i = go (ℕ_discrete n 0)
       where
-        go : Dec (n ≡ 0) → 0 ≡ leaf_room (leaf_of (rect_in b) r)
+        go : Dec (n ≡ 0) → None ≡ leaf_room (leaf_of (rect_in b) r)
         go (yes z) = link_none (w + 1) n r (omega (arith, at.upper)) z follow step
         go (no z) = absurd (omega (arith, (follow.there z).0))
 
@@ -237,5 +215,5 @@ module _ (b : HeldRect) (l : List ℕ) (last : ℕ) (heads next : List ℕ) (d :
   by_follows u a c q = rw q at (d.follows u a c (omega (arith, q)))
 
   -- none has it
-  pub by_no_room : (f z : ℕ) → f ≡ z → z ≡ get_or heads x 0 → f ≡ 0 → 4 ≤ last → 0 ≡ leaf_room (leaf_of (rect_in b) (rooms_from last 4 l))
+  pub by_no_room : (f z : ℕ) → f ≡ z → z ≡ get_or heads x 0 → f ≡ 0 → 4 ≤ last → None ≡ leaf_room (leaf_of (rect_in b) (rooms_from last 4 l))
   by_no_room f z ef ez q g = link_none b l last 4 f (rooms_from last 4 l) g q (by_first f z ef ez) refl

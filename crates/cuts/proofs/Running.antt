@@ -3,11 +3,12 @@ use Prim.Native.Nat.{ℕ, zero, suc, ◌+◌, ◌-◌, ◌*◌, ◌%◌, ◌≤�
 use mathlib.Core.Path.{◌≡◌, refl, sym, ap, ◌∙◌}
 use mathlib.Core.Bool.{Bool, true, false, cond}
 use mathlib.Core.Option.{Option, none, some}
+use Rattle.std.specs.Prelude.{Option as Answer, Some, None}
 use mathlib.Core.List.{List, [], ◌∷◌, ◌++◌, append_assoc, append-nil}
-use lib.ListN.{length, get_or, set, take, drop, replicate, length-replicate, length-append, length-set}
+use lib.ListN.{length, get_or, set, take, drop, replicate, length-append, length-set}
 use lib.Seq.{sets, sets-eq, take_at, get_or-set_same, get_or-set_other, length-take-le}
 use native.Mathlib.Omega.{arith}
-use borrow.Author.Tests.{le-leb, lt-leb, eq-eqb, ne_eqb}
+use borrow.Author.Tests.{le-leb, lt-leb}
 use Rattle.floor.specs.Fields.{write_field}
 use Rattle.floor.specs.Plans.{Rect}
 use Rattle.floor.specs.Registers.{Partition}
@@ -18,9 +19,8 @@ use Rattle.floor.proofs.Cuts.ByWalls.{by_leaf, by_none, by_cut}
 use Rattle.drawing.specs.declared.Rect.{Rect as HeldRect}
 use Rattle.drawing.specs.Rects.{rect_in, in_bytes}
 use Rattle.cuts.specs.declared.Task.{Task}
-use Rattle.cuts.specs.declared.Task.TheVariants.{Stuck, Leaf, Upright, Level}
+use Rattle.cuts.specs.declared.Task.TheVariants.{Leaf, Upright, Level}
 use Rattle.cuts.specs.declared.Act.{Act}
-use Rattle.cuts.specs.declared.Sliced.TheVariants.{No, Yes}
 use Rattle.fields.specs.Found.{with_head}
 use Rattle.cuts.specs.Tasks.{cut_task, task_of}
 use Rattle.cuts.specs.Runs.{tree_bytes, bytes_by, glue, runs, act_of, act_bytes, no_rect, stacked, SlicedAs}
@@ -77,11 +77,11 @@ module _ (ws : List Partition) (rs : List Rect) (b : Rect) where
   cut_bytes_lem a c e f = ap tree_bytes (by_cut ws rs b a c e f) ∙ both_bytes a c (tree_by ws rs (low_box a c b)) (tree_by ws rs (high_box a c b))
 
   -- what a task means for the bytes
-  abbrev Means : Task → Type 0
-  Means Stuck = bytes_by ws rs b ≡ none
-  Means (Leaf v) = bytes_by ws rs b ≡ some (in_bytes (write_field 6 (v ∷ [])))
-  Means (Upright c) = bytes_by ws rs b ≡ glue (some (cut_bytes upright c)) (glue (bytes_by ws rs (low_box upright c b)) (bytes_by ws rs (high_box upright c b)))
-  Means (Level c) = bytes_by ws rs b ≡ glue (some (cut_bytes level c)) (glue (bytes_by ws rs (low_box level c b)) (bytes_by ws rs (high_box level c b)))
+  abbrev Means : Answer Task → Type 0
+  Means None = bytes_by ws rs b ≡ none
+  Means (Some (Leaf v)) = bytes_by ws rs b ≡ some (in_bytes (write_field 6 (v ∷ [])))
+  Means (Some (Upright c)) = bytes_by ws rs b ≡ glue (some (cut_bytes upright c)) (glue (bytes_by ws rs (low_box upright c b)) (bytes_by ws rs (high_box upright c b)))
+  Means (Some (Level c)) = bytes_by ws rs b ≡ glue (some (cut_bytes level c)) (glue (bytes_by ws rs (low_box level c b)) (bytes_by ws rs (high_box level c b)))
 
   -- without a leaf there is a cut or nothing
   cut_means : leaf_of b rs ≡ none → Means (cut_task (wall_choice b ws))
@@ -104,7 +104,7 @@ module _ (ws : List Partition) (rs : List Rect) (b : Rect) where
       go (some (cut a c s t)) e = absurd (never_cut b rs a c s t e)
 
   -- by its name
-  pub task_means : (k : Task) → k ≡ task_of (leaf_of b rs) (wall_choice b ws) → Means k
+  pub task_means : (k : Answer Task) → k ≡ task_of (leaf_of b rs) (wall_choice b ws) → Means k
   task_means k e = rw e means
 
 -- how many bytes
@@ -212,31 +212,12 @@ front_put buf k at h =
     let n : length (take at buf ++ k) ≡ at + length k = length-append (take at buf) k ∙ ap (λ m. m + length k) (length-take-le at buf (omega arith)) in
     ap (take (at + length k)) (sets-eq k buf at h) ∙ take_at (take at buf ++ k) (drop (at + length k) buf) (at + length k) n
 
--- what is put for a task, and what waits next
-pub act_stuck : (k : Task) (b : HeldRect) → k ≡ Stuck → record { bytes = 0; first = 0; second = 0; grown = 0; low = b; high = b } ≡ act_of k b
-unfolding act_of
-act_stuck k b e = rw e
-
--- a leaf
-pub act_leaf : (k : Task) (b : HeldRect) (v : ℕ) → k ≡ Leaf v → record { bytes = 4; first = v % 256; second = 0; grown = 0; low = b; high = b } ≡ act_of k b
-unfolding act_of
-act_leaf k b v e = rw e
-
--- an upright cut
-pub act_upright : (k : Task) (b : HeldRect) (c : ℕ) → k ≡ Upright c → act_of (Upright c) b ≡ act_of k b
-act_upright k b c e = rw e
-
--- a level cut
-pub act_level : (k : Task) (b : HeldRect) (c : ℕ) → k ≡ Level c → act_of (Level c) b ≡ act_of k b
-act_level k b c e = rw e
-
 -- how much it puts and how many wait
-pub act_size : (k : Task) (b : HeldRect) (r : Act) → r ≡ act_of k b → (r.bytes ≤ 5) × (r.grown ≤ 2) × ((r.bytes ≡ 0 → ⊥) → 4 ≤ r.bytes)
+pub act_size : (k : Task) (b : HeldRect) (r : Act) → r ≡ act_of k b → (r.bytes ≤ 5) × (r.grown ≤ 2) × (4 ≤ r.bytes)
 unfolding act_of
-act_size Stuck b r e = rw e (omega arith, omega arith, λ h. absurd (h refl))
-act_size (Leaf v) b r e = rw e (omega arith, omega arith, λ h. omega arith)
-act_size (Upright c) b r e = rw e (omega arith, omega arith, λ h. omega arith)
-act_size (Level c) b r e = rw e (omega arith, omega arith, λ h. omega arith)
+act_size (Leaf v) b r e = rw e (omega arith, omega arith, omega arith)
+act_size (Upright c) b r e = rw e (omega arith, omega arith, omega arith)
+act_size (Level c) b r e = rw e (omega arith, omega arith, omega arith)
 
 -- a byte of a byte
 again : (v : ℕ) → in_bytes (write_field 6 (v % 256 ∷ [])) ≡ in_bytes (write_field 6 (v ∷ []))
@@ -277,51 +258,49 @@ module _ (ws : List Partition) (rs : List Rect) where
   single h stack n k m = rw m
 
   -- one step: what is put, and the bytes of what waits then
-  onward : (k : Task) (h : HeldRect) (stack : List HeldRect) (n : ℕ) → k ≡ task_of (leaf_of (rect_in h) rs) (wall_choice (rect_in h) ws) → ((act_of k h).bytes ≡ 0 → ⊥)
+  onward : (k : Task) (h : HeldRect) (stack : List HeldRect) (n : ℕ) → Some k ≡ task_of (leaf_of (rect_in h) rs) (wall_choice (rect_in h) ws)
       → n + 1 < length stack
-      → runs ws rs (rect_in h ∷ stacked n stack) ≡ glue (some (act_bytes (act_of k h).bytes (act_of k h).first (act_of k h).second))
+      → runs ws rs (rect_in h ∷ stacked n stack) ≡ glue (some (act_bytes (act_of k h).first (act_of k h).second))
       (runs ws rs (stacked (n + (act_of k h).grown) (set (set stack n (act_of k h).high) (n + 1) (act_of k h).low)))
   unfolding act_of act_bytes rect_in
-  onward Stuck h stack n e z l = absurd (z refl)
-  onward (Leaf v) h stack n e z l =
-      let m : bytes_by ws rs (rect_in h) ≡ some (in_bytes (write_field 6 (v ∷ []))) = task_means ws rs (rect_in h) (Leaf v) e in
+  onward (Leaf v) h stack n e l =
+      let m : bytes_by ws rs (rect_in h) ≡ some (in_bytes (write_field 6 (v ∷ []))) = task_means ws rs (rect_in h) (Some (Leaf v)) e in
       let q : in_bytes (write_field 6 (v % 256 ∷ [])) ≡ in_bytes (write_field 6 (v ∷ [])) = again v in
       let i : n + 0 ≡ n = omega arith in
       single h stack n (in_bytes (write_field 6 (v ∷ []))) m
       ∙ rw (q, i, stacked_set n (n + 1) (set stack n h) h (omega arith), stacked_set n n stack h (omega arith))
-  onward (Upright c) h stack n e z l =
+  onward (Upright c) h stack n e l =
       let m : bytes_by ws rs (rect_in h) ≡ glue (some (cut_bytes upright c)) (glue (bytes_by ws rs (low_box upright c (rect_in h))) (bytes_by ws rs (high_box upright c (rect_in h))))
-      = task_means ws rs (rect_in h) (Upright c) e in
+      = task_means ws rs (rect_in h) (Some (Upright c)) e in
       grown c h stack n l (act_of (Upright c) h).high (act_of (Upright c) h).low 0 (cut_bytes upright c) m (way_bytes upright c 0 zero_up)
-  onward (Level c) h stack n e z l =
+  onward (Level c) h stack n e l =
       let m : bytes_by ws rs (rect_in h) ≡ glue (some (cut_bytes level c)) (glue (bytes_by ws rs (low_box level c (rect_in h))) (bytes_by ws rs (high_box level c (rect_in h))))
-      = task_means ws rs (rect_in h) (Level c) e in
+      = task_means ws rs (rect_in h) (Some (Level c)) e in
       grown c h stack n l (act_of (Level c) h).high (act_of (Level c) h).low 1 (cut_bytes level c) m (way_bytes level c 1 one_level)
 
 -- a field put
-module _ (o h : List ℕ) (at n a c x : ℕ) (fits : at + 5 ≤ length o) (ex : x ≡ a % 256) where
+module _ (o h : List ℕ) (at a x : ℕ) (q : Answer ℕ) (fits : at + 5 ≤ length o) (ex : x ≡ a % 256) where
   -- a leaf's
-  pub put_leaf : n ≡ 4 → h ≡ with_head o at 6 1 → set h (at + 3) x ≡ sets o at (act_bytes n a c)
+  pub put_leaf : q ≡ None → h ≡ with_head o at 6 1 → set h (at + 3) x ≡ sets o at (act_bytes a q)
   unfolding act_bytes in_bytes write_field with_head
   put_leaf en eh =
       let e₃ : at + 3 ≡ suc (suc (suc at)) = omega arith in
-      rw (eh, le-leb (at + 3) (length o) (omega arith), eq-eqb n 4 en, e₃, ex)
+      rw (eh, le-leb (at + 3) (length o) (omega arith), en, e₃, ex)
 
   -- a cut's
-  pub put_cut : (y : ℕ) → (n ≡ 4 → ⊥) → h ≡ with_head o at 5 2 → y ≡ c % 256 → set (set h (at + 3) x) (at + 4) y ≡ sets o at (act_bytes n a c)
+  pub put_cut : (c y : ℕ) → q ≡ Some c → h ≡ with_head o at 5 2 → y ≡ c % 256 → set (set h (at + 3) x) (at + 4) y ≡ sets o at (act_bytes a q)
   unfolding act_bytes in_bytes write_field with_head
-  put_cut y en eh ey =
+  put_cut c y en eh ey =
       let e₃ : at + 3 ≡ suc (suc (suc at)) = omega arith in
       let e₄ : at + 4 ≡ suc (suc (suc (suc at))) = omega arith in
-      rw (eh, le-leb (at + 3) (length o) (omega arith), ne_eqb n 4 en, e₃, e₄, ex, ey)
+      rw (eh, le-leb (at + 3) (length o) (omega arith), en, e₃, e₄, ex, ey)
 
 -- as many bytes as are said
-act_length : (k : Task) (b : HeldRect) (r : Act) → r ≡ act_of k b → (r.bytes ≡ 0 → ⊥) → length (act_bytes r.bytes r.first r.second) ≡ r.bytes
+act_length : (k : Task) (b : HeldRect) (r : Act) → r ≡ act_of k b → length (act_bytes r.first r.second) ≡ r.bytes
 unfolding act_of act_bytes in_bytes write_field
-act_length Stuck b r e z = absurd (z (ap (λ (r : Act). r.bytes) e))
-act_length (Leaf v) b r e z = rw e
-act_length (Upright c) b r e z = rw e
-act_length (Level c) b r e z = rw e
+act_length (Leaf v) b r e = rw e
+act_length (Upright c) b r e = rw e
+act_length (Level c) b r e = rw e
 
 -- a front of two parts
 fold : (x y : List ℕ) (o : Option (List ℕ)) → glue (some (x ++ y)) o ≡ glue (some x) (glue (some y) o)
@@ -330,83 +309,64 @@ fold x y o = glue_of x y o ∙ glue_glue (some x) (some y) o
     glue_of : (x y : List ℕ) (o : Option (List ℕ)) → glue (some (x ++ y)) o ≡ glue (glue (some x) (some y)) o
     glue_of x y o = unfold glue in refl
 
--- the run, from its start to its ends
-pub stack_long : (stack : List HeldRect) (b : HeldRect) → stack ≡ replicate 136 b → length stack ≡ 136
-stack_long stack b e = ap (λ (l : List HeldRect). length l) e ∙ length-replicate {A = HeldRect} 136 b
-
--- and the first is b
-stack_first : (stack : List HeldRect) (b : HeldRect) → stack ≡ replicate 136 b → get_or stack 0 no_rect ≡ b
-stack_first stack b e = ap (λ (l : List HeldRect). get_or l 0 no_rect) e
-
--- the first of them waits, and nothing is put
-pub run_start : (ws : List Partition) (rs : List Rect) (buf : List ℕ) (stack : List HeldRect) → Sofar ws rs (rect_in (get_or stack 0 no_rect)) buf 0 stack 1
+-- THE RUN, from its start to its ends: b waits first, and nothing is put
+pub run_start : (ws : List Partition) (rs : List Rect) (buf : List ℕ) (b : HeldRect) → Sofar ws rs (rect_in b) buf 0 (replicate 136 b) 1
 unfolding stacked runs
-run_start ws rs buf stack = go (bytes_by ws rs (rect_in (get_or stack 0 no_rect)))
+run_start ws rs buf b = go (bytes_by ws rs (rect_in b))
   where
     go : (o : Option (List ℕ)) → glue (some []) (glue o (some [])) ≡ o
     go none = unfold glue in refl
     go (some w) = unfold glue in ap some (append-nil w)
 
-module _ (ws : List Partition) (rs : List Rect) (b : HeldRect) (stack₀ : List HeldRect) (e₀ : stack₀ ≡ replicate 136 b) (buf : List ℕ) (at n : ℕ)
-    (stack : List HeldRect) (long : length stack ≡ 136) (wide : length buf ≡ 544) (fits : at ≤ 544)
-    (inv : Sofar ws rs (rect_in (get_or stack₀ 0 no_rect)) buf at stack n) where
-  -- the invariant, said of b
-  sofar : Sofar ws rs (rect_in b) buf at stack n
-  sofar = rw (stack_first stack₀ b e₀) at inv
-
+module _ (ws : List Partition) (rs : List Rect) (b : HeldRect) (buf : List ℕ) (at n : ℕ) (stack : List HeldRect) (long : length stack ≡ 136) (wide : length buf ≡ 544)
+    (fits : at ≤ 544) (sofar : Sofar ws rs (rect_in b) buf at stack n) where
   -- too many wait, or too much is put
-  pub run_many : (x : List ℕ) → 535 < at + 4 * n → SlicedAs No x (capped 60 (tree_by ws rs (rect_in b)))
+  pub run_many : (x : List ℕ) → 535 < at + 4 * n → SlicedAs None x (capped 60 (tree_by ws rs (rect_in b)))
   unfolding SlicedAs
   run_many x h = too_many ws rs (rect_in b) buf at n stack (omega arith) sofar h
 
   -- too much was put
-  pub run_long : (x : List ℕ) → 535 < at → SlicedAs No x (capped 60 (tree_by ws rs (rect_in b)))
+  pub run_long : (x : List ℕ) → 535 < at → SlicedAs None x (capped 60 (tree_by ws rs (rect_in b)))
   run_long x h = run_many x (omega arith)
 
   -- nothing waits
-  pub run_done : n ≤ 0 → at ≤ 535 → SlicedAs (Yes at) buf (capped 60 (tree_by ws rs (rect_in b)))
+  pub run_done : n ≤ 0 → at ≤ 535 → SlicedAs (Some at) buf (capped 60 (tree_by ws rs (rect_in b)))
   unfolding SlicedAs stacked runs glue bytes_by
   run_done h g =
       let z : n ≡ 0 = omega arith in
       let e : tree_bytes (tree_by ws rs (rect_in b)) ≡ some (take at buf) = sym (rw z at sofar) ∙ ap some (append-nil (take at buf)) in
       (short_some (tree_by ws rs (rect_in b)) (take at buf) e (omega (arith, length-take-le at buf (omega arith))), omega arith)
 
-  module _ (k : Task) (h : HeldRect) (r : Act) (er : r ≡ act_of k h) (ek : k ≡ task_of (leaf_of (rect_in h) rs) (wall_choice (rect_in h) ws)) (some_wait : 0 < n)
-      (eh : h ≡ get_or stack (n - 1) no_rect) where
+  module _ (h : HeldRect) (some_wait : 0 < n) (eh : h ≡ get_or stack (n - 1) no_rect) where
     -- the top, and what waits below
     top_first : stacked n stack ≡ rect_in h ∷ stacked (n - 1) stack
     unfolding stacked
     top_first = let i : n ≡ suc (n - 1) = omega arith in ap (λ m. stacked m stack) i ∙ rw eh
 
     -- nothing can be done with the top
-    pub run_stuck : (x : List ℕ) → r.bytes ≡ 0 → SlicedAs No x (capped 60 (tree_by ws rs (rect_in b)))
+    pub run_stuck : (x : List ℕ) (t : Answer Task) → t ≡ task_of (leaf_of (rect_in h) rs) (wall_choice (rect_in h) ws) → t ≡ None → SlicedAs None x (capped 60 (tree_by ws rs (rect_in b)))
     unfolding SlicedAs runs bytes_by
-    run_stuck x z =
+    run_stuck x t et z =
         none_none (tree_by ws rs (rect_in b)) (sym sofar ∙ rw (top_first) (none_of (bytes_by ws rs (rect_in h))
-        (is_stuck k ek (ap (λ (r : Act). r.bytes) (sym er) ∙ z)) (runs ws rs (stacked (n - 1) stack))))
+        (task_means ws rs (rect_in h) None (sym z ∙ et)) (runs ws rs (stacked (n - 1) stack))))
       where
         none_of : (o : Option (List ℕ)) → o ≡ none → (q : Option (List ℕ)) → glue (some (take at buf)) (glue o q) ≡ none
         none_of o e q = unfold glue in rw e
 
-        is_stuck : (k : Task) → k ≡ task_of (leaf_of (rect_in h) rs) (wall_choice (rect_in h) ws) → (act_of k h).bytes ≡ 0 → bytes_by ws rs (rect_in h) ≡ none
-        is_stuck Stuck e z = task_means ws rs (rect_in h) Stuck e
-        is_stuck (Leaf v) e z = absurd (unfold act_of in omega arith)
-        is_stuck (Upright c) e z = absurd (unfold act_of in omega arith)
-        is_stuck (Level c) e z = absurd (unfold act_of in omega arith)
-
     -- one step on
-    pub run_on : (x : List ℕ) → (r.bytes ≡ 0 → ⊥) → at + 4 * n ≤ 535 → x ≡ sets buf at (act_bytes r.bytes r.first r.second)
-        → Sofar ws rs (rect_in (get_or stack₀ 0 no_rect)) x (at + r.bytes) (set (set stack (n - 1) r.high) (n - 1 + 1) r.low) (n - 1 + r.grown)
-    run_on x z m ex =
-        let y : length (act_bytes r.bytes r.first r.second) ≡ r.bytes = act_length k h r er z in
-        let o : runs ws rs (stacked n stack) ≡ glue (some (act_bytes r.bytes r.first r.second))
+    pub run_on : (x : List ℕ) (k : Task) (t : Answer Task) (r : Act) → t ≡ task_of (leaf_of (rect_in h) rs) (wall_choice (rect_in h) ws) → t ≡ Some k → r ≡ act_of k h
+        → at + 4 * n ≤ 535 → x ≡ sets buf at (act_bytes r.first r.second)
+        → Sofar ws rs (rect_in b) x (at + r.bytes) (set (set stack (n - 1) r.high) (n - 1 + 1) r.low) (n - 1 + r.grown)
+    run_on x k t r et ek er m ex =
+        let y : length (act_bytes r.first r.second) ≡ r.bytes = act_length k h r er in
+        let o : runs ws rs (stacked n stack) ≡ glue (some (act_bytes r.first r.second))
         (runs ws rs (stacked (n - 1 + r.grown) (set (set stack (n - 1) r.high) (n - 1 + 1) r.low)))
-        = ap (runs ws rs) top_first ∙ (rw (← er) at (onward ws rs k h stack (n - 1) ek (rw er at z) (omega arith))) in
-        let q : take (at + r.bytes) x ≡ take at buf ++ act_bytes r.bytes r.first r.second
-        = ap (take (at + r.bytes)) ex ∙ (rw y at (front_put buf (act_bytes r.bytes r.first r.second) at (omega (arith, (act_size k h r er).0)))) in
-        rw q (fold (take at buf) (act_bytes r.bytes r.first r.second)
+        = ap (runs ws rs) top_first ∙ (rw (← er) at (onward ws rs k h stack (n - 1) (sym ek ∙ et) (omega arith))) in
+        let q : take (at + r.bytes) x ≡ take at buf ++ act_bytes r.first r.second
+        = ap (take (at + r.bytes)) ex ∙ (rw y at (front_put buf (act_bytes r.first r.second) at (omega (arith, (act_size k h r er).0)))) in
+        rw q (fold (take at buf) (act_bytes r.first r.second)
         (runs ws rs (stacked (n - 1 + r.grown) (set (set stack (n - 1) r.high) (n - 1 + 1) r.low)))
-        ∙ sym (ap (glue (some (take at buf))) o) ∙ inv)
+        ∙ sym (ap (glue (some (take at buf))) o) ∙ sofar)
 
 -- at most five bytes are put
 pub act_few_bytes : (k : Task) (b : HeldRect) (r : Act) → r ≡ act_of k b → r.bytes ≤ 5
@@ -416,9 +376,9 @@ act_few_bytes k b r e = (act_size k b r e).0
 pub act_few_grown : (k : Task) (b : HeldRect) (r : Act) → r ≡ act_of k b → r.grown ≤ 2
 act_few_grown k b r e = (act_size k b r e).1
 
--- if any bytes are put, at least four
-pub act_some_bytes : (k : Task) (b : HeldRect) (r : Act) → r ≡ act_of k b → (r.bytes ≡ 0 → ⊥) → 4 ≤ r.bytes
-act_some_bytes k b r e z = (act_size k b r e).2 z
+-- at least four
+pub act_some_bytes : (k : Task) (b : HeldRect) (r : Act) → r ≡ act_of k b → 4 ≤ r.bytes
+act_some_bytes k b r e = (act_size k b r e).2
 
 -- two stores leave the stack as long as it is
 pub twice_set : (s : List HeldRect) (i k : ℕ) (x y : HeldRect) → length s ≡ 136 → length (set (set s i x) k y) ≡ 136

@@ -1,5 +1,6 @@
 -- Rooms linked by their corners. Assumes nothing.
 use Rattle.std.specs.Prelude.{ℕ, suc, ◌+◌, ◌*◌, ◌%◌, ◌≤◌, ◌<◌, ◌≡◌, ◌⊎◌, List, length, get_or}
+use Rattle.cuts.specs.declared.links.Rooms.{Rooms}
 
 -- a corner's mark: its two numbers as one under 127, a prime, so that corners in line seldom share a mark
 unfoldable pub mark_of : ℕ → ℕ → ℕ
@@ -28,3 +29,7 @@ Follows l last x next = (u : ℕ) → 4 ≤ u → u < last → corner_at l u ≡
 pub record Linked (l : List ℕ) (last v : ℕ) (heads next : List ℕ) : Type 0 where
   pub firsts : (x : ℕ) → x < length heads → FirstAt l last v x (get_or heads x 0)
   pub follows : (u : ℕ) → v ≤ u → u < last → corner_at l u < length heads → FirstAt l last (suc u) (corner_at l u) (get_or next u 0)
+
+-- THE ROOMS from the fifth vertex on, linked
+abbrev pub Joined : Rooms → Type 0
+Joined r = (4 ≤ r.last) × (r.last < 65536) × (length r.heads.now ≡ 127) × Linked r.rects.now r.last 4 r.heads.now r.next.now

@@ -1,5 +1,5 @@
 -- The rows of a register, and the first of them that runs from side to side of a rectangle. Assumes nothing.
-use Rattle.std.specs.Prelude.{ℕ, zero, suc, ◌+◌, ◌*◌, ◌≤◌, ◌<◌, Bool, cond, ◌&&◌, List, ltb, eqb, get_or}
+use Rattle.std.specs.Prelude.{ℕ, zero, suc, ◌+◌, ◌*◌, ◌≤◌, ◌<◌, Bool, cond, ◌&&◌, List, ltb, eqb, get_or, Option, Some, None}
 
 -- the number of row k
 unfoldable pub row_number : List ℕ → ℕ → ℕ
@@ -10,10 +10,10 @@ unfoldable pub row_reaches : ℕ → ℕ → ℕ → ℕ → List ℕ → ℕ �
 row_reaches after before low high l k =
     ltb after (get_or l (4 * k) 0) && ltb (get_or l (4 * k) 0) before && eqb (get_or l (4 * k + 1) 0) low && eqb (get_or l (4 * k + 2) 0) high
 
--- the number of the first of m rows from row k on that does; 0 where none does
-unfoldable pub row_cut : ℕ → ℕ → ℕ → ℕ → ℕ → ℕ → List ℕ → ℕ
-row_cut after before low high zero k l = 0
-row_cut after before low high (suc m) k l = cond (row_reaches after before low high l k) (get_or l (4 * k) 0) (row_cut after before low high m (suc k) l)
+-- the number of the first of m rows from row k on that does
+unfoldable pub row_cut : ℕ → ℕ → ℕ → ℕ → ℕ → ℕ → List ℕ → Option ℕ
+row_cut after before low high zero k l = None
+row_cut after before low high (suc m) k l = cond (row_reaches after before low high l k) (Some (get_or l (4 * k) 0)) (row_cut after before low high m (suc k) l)
 
 -- the rows from i to before n stand in order of number
 abbrev pub Rising : List ℕ → ℕ → ℕ → Type 0

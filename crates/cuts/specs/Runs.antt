@@ -1,10 +1,10 @@
 -- The bytes of the trees of rectangles that wait on a stack, and what is answered. Assumes nothing.
-use Rattle.std.specs.Prelude.{ℕ, zero, suc, ◌%◌, ◌≤◌, ◌≡◌, cond, List, [], ◌∷◌, ◌++◌, eqb, length, get_or, take}
+use Rattle.std.specs.Prelude.{ℕ, zero, suc, ◌%◌, ◌≤◌, ◌≡◌, List, [], ◌∷◌, ◌++◌, length, get_or, take, Option as Answer, Some, None}
 use Rattle.std.proofs.Math.Option.{Option, none, some}
 use Rattle.floor.specs.Fields.{write_field}
 use Rattle.floor.specs.Plans.{Rect, Plan}
 use Rattle.floor.specs.Registers.{Partition}
-use Rattle.floor.specs.Calls.{empty, Reply, refusal, wrote, Step, refuse}
+use Rattle.floor.specs.Calls.{empty, Step, refuse}
 use Rattle.floor.specs.Cuts.{Tree, write_tree, rooms_of, inner}
 use Rattle.floor.specs.Cuts.ByWalls.{tree_by, capped}
 use Rattle.fields.specs.Writes.{writing as written}
@@ -13,12 +13,8 @@ use Rattle.drawing.specs.Rects.{rect_in, in_bytes}
 use Rattle.registers.specs.Sorting.{rooms, kept_walls}
 use Rattle.registers.specs.Kept.{walls}
 use Rattle.cuts.specs.declared.Task.{Task}
-use Rattle.cuts.specs.declared.Task.TheVariants.{Stuck, Leaf, Upright, Level}
+use Rattle.cuts.specs.declared.Task.TheVariants.{Leaf, Upright, Level}
 use Rattle.cuts.specs.declared.Act.{Act}
-use Rattle.cuts.specs.declared.Sliced.{Sliced}
-use Rattle.cuts.specs.declared.Sliced.TheVariants.{No, Yes}
-use Rattle.cuts.specs.declared.Written.{Written}
-use Rattle.cuts.specs.declared.Written.TheVariants.{Wrote, TooShort, NotSliceable}
 
 -- a tree's bytes
 unfoldable pub tree_bytes : Option Tree → Option (List ℕ)
@@ -42,12 +38,11 @@ runs ws rs (b ∷ bs) = glue (bytes_by ws rs b) (runs ws rs bs)
 
 -- what a task puts and what waits next
 unfoldable pub act_of : Task → HeldRect → Act
-act_of Stuck b = record { bytes = 0; first = 0; second = 0; grown = 0; low = b; high = b }
-act_of (Leaf v) b = record { bytes = 4; first = v % 256; second = 0; grown = 0; low = b; high = b }
+act_of (Leaf v) b = record { bytes = 4; first = v % 256; second = None; grown = 0; low = b; high = b }
 act_of (Upright c) b = record {
   bytes = 5;
   first = 0;
-  second = c;
+  second = Some c;
   grown = 2;
   low = record { vertex = b.vertex; x1 = b.x1; y1 = b.y1; x2 = c; y2 = b.y2 };
   high = record { vertex = b.vertex; x1 = c; y1 = b.y1; x2 = b.x2; y2 = b.y2 };
@@ -55,15 +50,16 @@ act_of (Upright c) b = record {
 act_of (Level c) b = record {
   bytes = 5;
   first = 1;
-  second = c;
+  second = Some c;
   grown = 2;
   low = record { vertex = b.vertex; x1 = b.x1; y1 = b.y1; x2 = b.x2; y2 = c };
   high = record { vertex = b.vertex; x1 = b.x1; y1 = c; x2 = b.x2; y2 = b.y2 };
 }
 
 -- the field that is put
-unfoldable pub act_bytes : ℕ → ℕ → ℕ → List ℕ
-act_bytes n a c = cond (eqb n 4) (in_bytes (write_field 6 (a ∷ []))) (in_bytes (write_field 5 (a ∷ c ∷ [])))
+unfoldable pub act_bytes : ℕ → Answer ℕ → List ℕ
+act_bytes a None = in_bytes (write_field 6 (a ∷ []))
+act_bytes a (Some c) = in_bytes (write_field 5 (a ∷ c ∷ []))
 
 -- no rectangle, as it is held
 abbrev pub no_rect : HeldRect
@@ -75,19 +71,13 @@ stacked zero l = []
 stacked (suc n) l = rect_in (get_or l n no_rect) ∷ stacked n l
 
 -- what is said of a tree: there is none; or its bytes are the front of the buffer
-unfoldable pub SlicedAs : Sliced → List ℕ → Option Tree → Type 0
-SlicedAs No buf o = o ≡ none
-SlicedAs (Yes n) buf o = (tree_bytes o ≡ some (take n buf)) × (n ≤ length buf)
+unfoldable pub SlicedAs : Answer ℕ → List ℕ → Option Tree → Type 0
+SlicedAs None buf o = o ≡ none
+SlicedAs (Some n) buf o = (tree_bytes o ≡ some (take n buf)) × (n ≤ length buf)
 
 -- THE TREE OF ANY PLAN, by its walls as they are kept; none with more leaves than rooms are held
 unfoldable pub cut_tree : Plan → Option Tree
 cut_tree p = capped rooms (tree_by (take walls (kept_walls p)) (rooms_of p) (inner p))
-
--- what an answer to the writing says
-unfoldable pub replied : Written → Reply
-replied (Wrote n) = wrote n
-replied TooShort = refusal 14
-replied NotSliceable = refusal 15
 
 -- what writing a tree comes to: 15 where there is none, then 14 where the buffer is too short
 unfoldable pub writing : Option (List ℕ) → List ℕ → Step

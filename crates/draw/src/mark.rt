@@ -1,48 +1,30 @@
 // The fingerprint of a job's bytes: the number that POSIX's `cksum FILE` prints first, a CRC of 32 bits over the bytes and their count.
-ghost use Rattle.std.specs.Prelude.{◌<◌};
+ghost use Rattle.std.specs.Prelude.{◌≤◌};
+
+// What is taken off where a bit falls out at the top.
+const POLYNOMIAL: u32 = 0x04c1_1db7;
 
 // One bit further.
-fn shifted(crc: u64) -> u64 {
-    let low = crc % 4294967296;
-    let twice = low * 2 % 4294967296;
-    if low < 2147483648 {
-        return twice;
+fn shifted(crc: u32) -> u32 {
+    if crc >> 31 == 0 {
+        return crc << 1;
     }
-    twice ^ 79764919
-}
-
-// Four bits further.
-fn shifted_four(crc: u64) -> u64 {
-    shifted(shifted(shifted(shifted(crc))))
+    (crc << 1) ^ POLYNOMIAL
 }
 
 // A byte further.
-fn fed(crc: u64, byte: usize) -> u64
-    requires { byte < 256 }
-{
-    let high = (byte as u64) * 16777216;
-    shifted_four(shifted_four(crc ^ high))
+fn fed(crc: u32, byte: u8) -> u32 {
+    (0..8).fold(crc ^ (u32::from(byte) << 24), |crc, _| shifted(crc))
 }
 
-// The count of the bytes, low byte first, as far as it goes; two bytes hold any count that is read here.
-fn with_count(crc: u64, many: usize) -> u64 {
-    if many == 0 {
-        return crc;
+// The fingerprint of some bytes: they are fed, then their count, low byte first, as far as it goes.
+pub fn fingerprint(bytes: &[u8]) -> u32 {
+    let mut crc = bytes.iter().fold(0, |crc, &byte| fed(crc, byte));
+    let mut count = bytes.len();
+    // No `for`: how many bytes the count has shows only as they are taken off.
+    while count != 0 {
+        crc = fed(crc, (count & 0xff) as u8);
+        count >>= 8;
     }
-    let one = fed(crc, many % 256);
-    if many < 256 {
-        return one;
-    }
-    fed(one, many / 256 % 256)
-}
-
-// The fingerprint of some bytes.
-pub fn fingerprint(bytes: &[u8]) -> u64 {
-    let mut crc: u64 = 0;
-    let mut i: usize = 0;
-    while i < bytes.len() {
-        crc = fed(crc, fields::wide(bytes[i]));
-        i += 1;
-    }
-    4294967295 - with_count(crc, bytes.len()) % 4294967296
+    !crc
 }

@@ -1,76 +1,78 @@
 // What the rectangle of a vertex is called, and the colour of its tint: vertices 0 to 3 are the sides of the frame.
-use crate::pen;
-use drawing::Rect;
-use std::io;
+use std::fmt;
 
-// The name in full, as shown where the pointer rests on a rectangle.
-fn full(rt: &impl Print, v: usize) -> io::Result<()> {
-    match v {
-        0 => pen::word(rt, b"north side"),
-        1 => pen::word(rt, b"west side"),
-        2 => pen::word(rt, b"south side"),
-        3 => pen::word(rt, b"east side"),
-        _ => {
-            pen::word(rt, b"room ")?;
-            pen::number(rt, v)
+// A side of the frame, or a room by its number. In short, as it stands on the rectangle, a side is a letter.
+#[derive(Clone, Copy)]
+pub enum Name {
+    North,
+    West,
+    South,
+    East,
+    Room(usize),
+}
+
+impl From<usize> for Name {
+    fn from(vertex: usize) -> Name {
+        match vertex {
+            0 => Name::North,
+            1 => Name::West,
+            2 => Name::South,
+            3 => Name::East,
+            room => Name::Room(room),
         }
     }
 }
 
-// The name in short, as it stands on the rectangle.
-pub fn short(rt: &impl Print, v: usize) -> io::Result<()> {
-    match v {
-        0 => pen::word(rt, b"N"),
-        1 => pen::word(rt, b"W"),
-        2 => pen::word(rt, b"S"),
-        3 => pen::word(rt, b"E"),
-        _ => pen::number(rt, v),
+impl fmt::Display for Name {
+    fn fmt<W: fmt::Write>(&self, f: &mut fmt::Formatter<W>) -> fmt::Result {
+        match self {
+            Name::North => write!(f, "N"),
+            Name::West => write!(f, "W"),
+            Name::South => write!(f, "S"),
+            Name::East => write!(f, "E"),
+            Name::Room(room) => write!(f, "{room}"),
+        }
     }
 }
 
-// How heavy the short name is: the letters of the frame stand out.
-pub fn weight(rt: &impl Print, v: usize) -> io::Result<()> {
-    if v < 4 {
-        pen::word(rt, b" font-weight=\"bold\"")?;
-    }
-    Ok(())
-}
+// A name in full, as shown where the pointer rests on a rectangle.
+#[derive(Clone, Copy)]
+pub struct Full(pub Name);
 
-// The name in full and the lines that the rectangle spans.
-pub fn title(rt: &impl Print, r: Rect) -> io::Result<()> {
-    pen::word(rt, b"<title>")?;
-    full(rt, r.vertex)?;
-    pen::word(rt, b": x ")?;
-    pen::number(rt, fields::number(r.x1))?;
-    pen::word(rt, b" to ")?;
-    pen::number(rt, fields::number(r.x2))?;
-    pen::word(rt, b", y ")?;
-    pen::number(rt, fields::number(r.y1))?;
-    pen::word(rt, b" to ")?;
-    pen::number(rt, fields::number(r.y2))?;
-    pen::word(rt, b"</title>")
-}
-
-// A tint of a room. Six are enough for every floor (tints.rt); white stands in for a seventh.
-fn room_tint(rt: &impl Print, tint: u8) -> io::Result<()> {
-    match tint {
-        0 => pen::word(rt, b"#fff3d1"),
-        1 => pen::word(rt, b"#dcebfa"),
-        2 => pen::word(rt, b"#e0f2dc"),
-        3 => pen::word(rt, b"#fae1dd"),
-        4 => pen::word(rt, b"#eae2f6"),
-        5 => pen::word(rt, b"#d9f1ee"),
-        _ => pen::word(rt, b"#ffffff"),
+impl fmt::Display for Full {
+    fn fmt<W: fmt::Write>(&self, f: &mut fmt::Formatter<W>) -> fmt::Result {
+        match self.0 {
+            Name::North => write!(f, "north side"),
+            Name::West => write!(f, "west side"),
+            Name::South => write!(f, "south side"),
+            Name::East => write!(f, "east side"),
+            Name::Room(room) => write!(f, "room {room}"),
+        }
     }
 }
 
-// The tint of a vertex, as an attribute: grey for the frame.
-pub fn tint(rt: &impl Print, v: usize, tint: u8) -> io::Result<()> {
-    pen::word(rt, b" fill=\"")?;
-    if v < 4 {
-        pen::word(rt, b"#dcdcdc")?;
-    } else {
-        room_tint(rt, tint)?;
+impl Name {
+    // How heavy the short name is: the letters of the frame stand out.
+    pub fn weight(self) -> &'static str {
+        match self {
+            Name::Room(_) => "",
+            _ => " font-weight=\"bold\"",
+        }
     }
-    pen::word(rt, b"\"")
+
+    // The colour of a rectangle by its tint: grey for the frame. Six tints are enough for every floor (tints.rt); white stands in for a seventh.
+    pub fn colour(self, tint: Option<u8>) -> &'static str {
+        let Name::Room(_) = self else {
+            return "#dcdcdc";
+        };
+        match tint {
+            Some(0) => "#fff3d1",
+            Some(1) => "#dcebfa",
+            Some(2) => "#e0f2dc",
+            Some(3) => "#fae1dd",
+            Some(4) => "#eae2f6",
+            Some(5) => "#d9f1ee",
+            _ => "#ffffff",
+        }
+    }
 }

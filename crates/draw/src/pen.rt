@@ -1,48 +1,22 @@
 // The pieces that a picture is written in.
-use std::io;
+use std::{fmt, io};
 
-// A word, or any text.
-pub fn word(rt: &impl Print, text: &[u8]) -> io::Result<()> {
-    rt.write_all(text)
-}
+// A number of tenths, written as a decimal.
+#[derive(Clone, Copy)]
+pub struct Tenths(pub usize);
 
-// A number.
-pub fn number(rt: &impl Print, n: usize) -> io::Result<()> {
-    rt.print(n)
-}
-
-// A number of tenths, as a decimal.
-pub fn tenths(rt: &impl Print, n: usize) -> io::Result<()> {
-    number(rt, n / 10)?;
-    if n % 10 != 0 {
-        word(rt, b".")?;
-        number(rt, n % 10)?;
+impl fmt::Display for Tenths {
+    fn fmt<W: fmt::Write>(&self, f: &mut fmt::Formatter<W>) -> fmt::Result {
+        let whole = self.0 / 10;
+        let tenths = self.0 % 10;
+        if tenths == 0 {
+            return write!(f, "{whole}");
+        }
+        write!(f, "{whole}.{tenths}")
     }
-    Ok(())
-}
-
-// An attribute: its name and a number.
-pub fn attribute(rt: &impl Print, name: &[u8], n: usize) -> io::Result<()> {
-    word(rt, b" ")?;
-    word(rt, name)?;
-    word(rt, b"=\"")?;
-    number(rt, n)?;
-    word(rt, b"\"")
-}
-
-// A point on a path, to which the pen is moved.
-pub fn point(rt: &impl Print, x: usize, y: usize) -> io::Result<()> {
-    word(rt, b"M")?;
-    number(rt, x)?;
-    word(rt, b" ")?;
-    number(rt, y)
 }
 
 // The start of a text: where its middle stands, level with the middle of the letters, and how large they are.
 pub fn open_text(rt: &impl Print, x: usize, y: usize, size: usize) -> io::Result<()> {
-    word(rt, b"<text")?;
-    attribute(rt, b"x", x)?;
-    attribute(rt, b"y", y)?;
-    word(rt, b" dy=\"0.35em\"")?;
-    attribute(rt, b"font-size", size)
+    print!(rt; "<text x=\"{x}\" y=\"{y}\" dy=\"0.35em\" font-size=\"{size}\"")
 }

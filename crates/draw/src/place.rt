@@ -10,133 +10,96 @@ pub struct Sheet {
     pub sized: bool,
 }
 
-// The two axes of the sheet: x across it, and y up it.
-#[derive(Clone, Copy)]
-pub enum Axis {
-    Across,
-    Up,
-}
-
-// How many cells the sheet has along an axis.
-pub fn cells(axis: Axis, sheet: Sheet) -> u16 {
-    match axis {
-        Axis::Across => sheet.width,
-        Axis::Up => sheet.height,
+impl Sheet {
+    // The units of some cells: from 20 to 80 each, by the sheet's longer side, and always an even number.
+    fn units(self, cells: u16) -> usize
+        ensures { result < 5300000 }
+    {
+        let cells = usize::from(cells);
+        match self.width.max(self.height) {
+            0..=6 => 80 * cells,
+            7..=8 => 60 * cells,
+            9..=12 => 40 * cells,
+            13..=16 => 30 * cells,
+            17..=20 => 24 * cells,
+            _ => 20 * cells,
+        }
     }
-}
 
-// The cells along the sheet's longer side.
-fn longer(sheet: Sheet) -> u16 {
-    if sheet.width < sheet.height {
-        return sheet.height;
+    // The units of one cell.
+    pub fn cell(self) -> usize
+        ensures { result < 5300000 }
+    {
+        self.units(1)
     }
-    sheet.width
-}
 
-// The units of some cells: from 20 to 80 each, and always an even number.
-fn units(sheet: Sheet, cells: usize) -> usize
-    requires { cells < 65536 }
-    ensures { result < 5300000 }
-{
-    let long = longer(sheet);
-    if long <= 6 {
-        return 80 * cells;
+    // The units from one line to another; none where they stand the wrong way round.
+    pub fn span(self, a: u16, b: u16) -> usize
+        ensures { result < 5300000 }
+    {
+        self.units(b.saturating_sub(a))
     }
-    if long <= 8 {
-        return 60 * cells;
+
+    // How much is left free at the left and at the right: 40 units for the numbers of the lines, and what a narrow sheet leaves of the words' room.
+    fn side(self) -> usize
+        ensures { (40 ≤ result) × (result ≤ 280) }
+    {
+        40 + 480usize.saturating_sub(self.span(0, self.width)) / 2
     }
-    if long <= 12 {
-        return 40 * cells;
+
+    // Where an upright line stands, from the left of the picture.
+    pub fn across(self, x: u16) -> usize
+        ensures { (40 ≤ result) × (result < 5400000) }
+    {
+        self.side() + self.span(0, x)
     }
-    if long <= 16 {
-        return 30 * cells;
+
+    // Where a level line stands, from the top of the picture.
+    pub fn down(self, y: u16) -> usize
+        ensures { (68 ≤ result) × (result < 5400000) }
+    {
+        68 + self.span(y, self.height)
     }
-    if long <= 20 {
-        return 24 * cells;
+
+    // Halfway between two upright lines.
+    pub fn middle_across(self, x1: u16, x2: u16) -> usize
+        ensures { (40 ≤ result) × (result < 5400000) }
+    {
+        (self.across(x1) + self.across(x2)) / 2
     }
-    20 * cells
-}
 
-// The units of one cell.
-pub fn cell(sheet: Sheet) -> usize
-    ensures { result < 5300000 }
-{
-    units(sheet, 1)
-}
-
-// The units from one line to another; none where they stand the wrong way round.
-pub fn span(sheet: Sheet, a: u16, b: u16) -> usize
-    ensures { result < 5300000 }
-{
-    let low = fields::number(a);
-    let high = fields::number(b);
-    if high < low {
-        return 0;
+    // Halfway between two level lines.
+    pub fn middle_down(self, y1: u16, y2: u16) -> usize
+        ensures { (68 ≤ result) × (result < 5400000) }
+    {
+        (self.down(y1) + self.down(y2)) / 2
     }
-    units(sheet, high - low)
-}
 
-// How much is left free at the left and at the right: 40 units for the numbers of the lines, and what a narrow sheet leaves of the words' room.
-fn side(sheet: Sheet) -> usize
-    ensures { (40 ≤ result) × (result ≤ 280) }
-{
-    let wide = span(sheet, 0, sheet.width);
-    if wide < 480 {
-        return 40 + (480 - wide) / 2;
+    // The last line of the rooms across: one less than its cells, or 0.
+    pub fn last_across(self) -> u16 {
+        self.width.saturating_sub(1)
     }
-    40
-}
 
-// Where an upright line stands, from the left of the picture.
-pub fn across(sheet: Sheet, x: u16) -> usize
-    ensures { (40 ≤ result) × (result < 5400000) }
-{
-    side(sheet) + span(sheet, 0, x)
-}
-
-// Where a level line stands, from the top of the picture.
-pub fn down(sheet: Sheet, y: u16) -> usize
-    ensures { (68 ≤ result) × (result < 5400000) }
-{
-    68 + span(sheet, y, sheet.height)
-}
-
-// Halfway between two upright lines.
-pub fn middle_across(sheet: Sheet, x1: u16, x2: u16) -> usize
-    ensures { (40 ≤ result) × (result < 5400000) }
-{
-    (across(sheet, x1) + across(sheet, x2)) / 2
-}
-
-// Halfway between two level lines.
-pub fn middle_down(sheet: Sheet, y1: u16, y2: u16) -> usize
-    ensures { (68 ≤ result) × (result < 5400000) }
-{
-    (down(sheet, y1) + down(sheet, y2)) / 2
-}
-
-// The last line of the rooms along an axis, by its cells: one less, or 0.
-pub fn last(cells: u16) -> u16 {
-    if cells == 0 {
-        return 0;
+    // The last line of the rooms up.
+    pub fn last_up(self) -> u16 {
+        self.height.saturating_sub(1)
     }
-    cells - 1
-}
 
-// How wide the whole picture is: what is free at the left is free at the right.
-pub fn picture_width(sheet: Sheet) -> usize
-    ensures { (80 ≤ result) × (result < 5500000) }
-{
-    across(sheet, sheet.width) + side(sheet)
-}
-
-// How high the whole picture is, with five lines of words at the bottom, or six.
-pub fn picture_height(sheet: Sheet) -> usize
-    ensures { (144 ≤ result) × (result < 5500000) }
-{
-    let five = down(sheet, 0) + 85;
-    if sheet.sized {
-        return five + 12;
+    // How wide the whole picture is: what is free at the left is free at the right.
+    pub fn picture_width(self) -> usize
+        ensures { (80 ≤ result) × (result < 5500000) }
+    {
+        self.across(self.width) + self.side()
     }
-    five
+
+    // How high the whole picture is, with five lines of words at the bottom, or six.
+    pub fn picture_height(self) -> usize
+        ensures { (144 ≤ result) × (result < 5500000) }
+    {
+        let five = self.down(0) + 85;
+        if self.sized {
+            return five + 12;
+        }
+        five
+    }
 }

@@ -3,166 +3,92 @@
 // always one has at most five neighbours left (Euler), and six tints are enough.
 ghost use Rattle.std.specs.Prelude.{◌≤◌, ◌<◌};
 
-use drawing::{Plan, Touch};
+use drawing::{Layout, Touch};
 
-// Not tinted yet.
-const NONE: u8 = 255;
+// For each vertex whether it touches another.
+type Row = [bool; 64];
 
-// Whether two rooms have a wall between them, as a number.
-fn walled(plan: Plan, u: usize, v: usize) -> u8 {
-    let touch = drawing::rects::touch(
-        drawing::rectangle(&plan.rects, plan.rooms, u),
-        drawing::rectangle(&plan.rects, plan.rooms, v),
-    );
-    let Touch::Wall(_, _) = touch else {
-        return 0;
-    };
-    1
+// The tints of the vertices, as far as they have one.
+#[derive(Clone, Copy)]
+pub struct Tints([Option<u8>; 64]);
+
+// Whether two rooms have a wall between them.
+fn walled(plan: &Layout, u: usize, v: usize) -> bool {
+    let touch = plan.rectangle(u).touch(plan.rectangle(v));
+    matches!(touch, Touch::Wall(_, _))
 }
 
-// Which rooms a room touches, in its row of the table.
-fn mark_row(plan: Plan, u: usize, near: &mut [u8; 4096])
-    requires { u < 64 }
-{
-    let mut v: usize = 4;
-    while v < 64 {
-        near[64 * u + v] = walled(plan, u, v);
-        v += 1;
+// Which rooms touch: a row for each vertex. A number that is no room touches none.
+fn rows_of(plan: &Layout) -> [Row; 64] {
+    let mut near = [[false; 64]; 64];
+    for u in 4..64 {
+        for v in 4..64 {
+            near[u][v] = walled(plan, u, v);
+        }
     }
-}
-
-// Which rooms touch: a row of 64 for each vertex. A number that is no room touches none.
-fn mark_rows(plan: Plan, near: &mut [u8; 4096]) {
-    let mut u: usize = 4;
-    while u < 64 {
-        mark_row(plan, u, near);
-        u += 1;
-    }
-}
-
-// 1 where u touches v and is not put aside.
-fn counts<'a>(near: &'a [u8; 4096], aside: &'a [u8; 64], v: usize, u: usize) -> usize
-    requires { (v < 64) × (u < 64) }
-    ensures { result ≤ 1 }
-{
-    if near[64 * v + u] == 0 {
-        return 0;
-    }
-    if aside[u] == 0 {
-        return 1;
-    }
-    0
+    near
 }
 
 // How many neighbours a room has left.
-fn left<'a>(near: &'a [u8; 4096], aside: &'a [u8; 64], v: usize) -> usize
-    requires { v < 64 }
-{
-    let mut many: usize = 0;
-    let mut u: usize = 4;
-    while u < 64 {
-        many += counts(near, aside, v, u);
-        u += 1;
-    }
-    many
+fn left(row: &Row, aside: &Row) -> usize {
+    row.iter()
+        .zip(aside)
+        .filter(|&(near, aside)| *near && !*aside)
+        .count()
 }
 
-// Of two rooms the one with fewer neighbours left; one that is put aside counts last.
-fn looser<'a>(near: &'a [u8; 4096], aside: &'a [u8; 64], u: usize, v: usize) -> usize
-    requires { (u < 64) × (v < 64) }
+// The room with the fewest neighbours left, of those that are not put aside.
+fn loosest(near: &[Row; 64], aside: &Row) -> usize
     ensures { result < 64 }
 {
-    if aside[v] != 0 {
-        return u;
-    }
-    if aside[u] != 0 {
-        return v;
-    }
-    if left(near, aside, v) < left(near, aside, u) {
-        return v;
-    }
-    u
-}
-
-// The room with the fewest neighbours left.
-fn loosest<'a>(near: &'a [u8; 4096], aside: &'a [u8; 64]) -> usize
-    ensures { result < 64 }
-{
-    let mut best: usize = 4;
-    let mut v: usize = 5;
-    while v < 64 {
-        best = looser(near, aside, best, v);
-        v += 1;
+    let mut best = 4;
+    for v in 5..64 {
+        if !aside[v] && (aside[best] || left(&near[v], aside) < left(&near[best], aside)) {
+            best = v;
+        }
     }
     best
 }
 
 // All rooms in the order in which they are put aside.
-fn put_aside(near: &[u8; 4096], order: &mut [usize; 60]) {
-    let mut aside = [0u8; 64];
-    let mut i: usize = 0;
-    while i < 60 {
+fn put_aside(near: &[Row; 64]) -> [usize; 60] {
+    let mut aside = [false; 64];
+    let mut order = [0; 60];
+    for place in order.iter_mut() {
         let v = loosest(near, &aside);
-        order[i] = v;
-        aside[v] = 1;
-        i += 1;
+        *place = v;
+        aside[v] = true;
+    }
+    order
+}
+
+impl Tints {
+    // The tint of a vertex.
+    pub fn of(&self, v: usize) -> Option<u8> {
+        *self.0.get(v)?
+    }
+
+    // Whether a neighbour has a tint.
+    fn taken(&self, row: &Row, tint: u8) -> bool {
+        row.iter()
+            .zip(&self.0)
+            .any(|(near, held)| *near && *held == Some(tint))
+    }
+
+    // The first tint that no neighbour of a room has: there are 60 to choose from, and a room has 59 neighbours at most.
+    fn first_free(&self, row: &Row) -> Option<u8> {
+        (0..60).find(|&tint| !self.taken(row, tint))
     }
 }
 
-// Whether a neighbour of a room has a tint.
-fn taken<'a>(near: &'a [u8; 4096], tints: &'a [u8; 64], v: usize, tint: u8) -> bool
-    requires { v < 64 }
-{
-    let mut u: usize = 4;
-    while u < 64 {
-        if near[64 * v + u] != 0 {
-            if tints[u] == tint {
-                return true;
-            }
+// The tint of each vertex: the rooms are tinted that were put aside last first.
+pub fn tints_of(plan: &Layout) -> Tints {
+    let near = rows_of(plan);
+    let mut tints = Tints([None; 64]);
+    for &v in put_aside(&near).iter().rev() {
+        if let Some(row) = near.get(v) {
+            tints.0[v] = tints.first_free(row);
         }
-        u += 1;
     }
-    false
-}
-
-// The first tint that no neighbour of a room has: there are 60 to choose from, and a room has 59 neighbours at most.
-fn first_free<'a>(near: &'a [u8; 4096], tints: &'a [u8; 64], v: usize) -> u8
-    requires { v < 64 }
-{
-    let mut tint: u8 = 0;
-    while tint < 60 {
-        if !taken(near, tints, v, tint) {
-            return tint;
-        }
-        tint += 1;
-    }
-    NONE
-}
-
-// A room, tinted.
-fn tint_room(near: &[u8; 4096], tints: &mut [u8; 64], v: usize) {
-    if v < 64 {
-        let tint = first_free(near, tints, v);
-        tints[v] = tint;
-    }
-}
-
-// The rooms tinted, those that were put aside last first.
-fn tint_rooms<'a>(near: &'a [u8; 4096], order: &'a [usize; 60], tints: &mut [u8; 64]) {
-    let mut i: usize = 60;
-    while 0 < i {
-        i -= 1;
-        tint_room(near, tints, order[i]);
-    }
-}
-
-// The tint of each vertex.
-pub fn tints_of(plan: Plan) -> [u8; 64] {
-    let mut near = [0u8; 4096];
-    mark_rows(plan, &mut near);
-    let mut order = [0usize; 60];
-    put_aside(&near, &mut order);
-    let mut tints = [NONE; 64];
-    tint_rooms(&near, &order, &mut tints);
     tints
 }

@@ -1,10 +1,12 @@
 // The marks of the walls: W1, W2, .. upright and L1, L2, .. level, in the order of the joiner's list, so that joiner and crew speak of the same wall.
 ghost use Rattle.std.specs.Prelude.{◌≤◌};
 
-use crate::place::{Axis, Sheet};
-use crate::stretches::Stretch;
-use crate::{pen, stretches};
-use std::io;
+use crate::place::Sheet;
+use crate::stretches;
+use crate::stretches::{Look, Stretch, Way};
+use drawing::Layout;
+use registers::Register;
+use std::{fmt, io};
 
 // A wall: where it runs, its place among those of its direction, and the room sides on it.
 #[derive(Clone, Copy)]
@@ -14,61 +16,15 @@ struct Wall {
     sides: u16,
 }
 
-// The number at a place, 0 past the end.
-fn number_at(rows: &[u16], k: usize) -> u16 {
-    if rows.len() <= k {
-        return 0;
-    }
-    rows[k]
-}
-
-// The wall in row i, four numbers to a row, along an axis.
-fn wall_at(rows: &[u16], i: usize, along: Axis, nth: usize) -> Wall
-    requires { i ≤ 65536 }
-{
-    let k = 4 * i;
-    let stretch = Stretch {
-        along: along,
-        line: number_at(rows, k),
-        from: number_at(rows, k + 1),
-        to: number_at(rows, k + 2),
-    };
-    Wall {
-        stretch: stretch,
-        nth: nth,
-        sides: number_at(rows, k + 3),
-    }
-}
-
 // The mark: a letter for the direction and a number.
-fn mark(rt: &impl Print, wall: Wall) -> io::Result<()> {
-    let stretch = wall.stretch;
-    let along = stretch.along;
-    match along {
-        Axis::Up => pen::word(rt, b"W")?,
-        Axis::Across => pen::word(rt, b"L")?,
+impl fmt::Display for Wall {
+    fn fmt<W: fmt::Write>(&self, f: &mut fmt::Formatter<W>) -> fmt::Result {
+        let nth = self.nth;
+        match self.stretch.way {
+            Way::Upright => write!(f, "W{nth}"),
+            Way::Level => write!(f, "L{nth}"),
+        }
     }
-    pen::number(rt, wall.nth)
-}
-
-// How long a wall is.
-fn length(stretch: Stretch) -> usize {
-    if stretch.to < stretch.from {
-        return 0;
-    }
-    fields::number(stretch.to - stretch.from)
-}
-
-// The mark, where the wall runs, how long it is and how many room sides lie on it, as shown where the pointer rests on the mark.
-fn title(rt: &impl Print, wall: Wall) -> io::Result<()> {
-    pen::word(rt, b"<title>wall ")?;
-    mark(rt, wall)?;
-    stretches::tell(rt, wall.stretch)?;
-    pen::word(rt, b", length ")?;
-    pen::number(rt, length(wall.stretch))?;
-    pen::word(rt, b", room sides ")?;
-    pen::number(rt, fields::number(wall.sides))?;
-    pen::word(rt, b"</title>")
 }
 
 // Half the room that a mark takes along its wall: W is wider than L, and two digits are wider than one.
@@ -76,56 +32,62 @@ fn half(wall: Wall, size: usize) -> usize
     requires { size ≤ 12 }
     ensures { result ≤ 14 }
 {
-    let stretch = wall.stretch;
-    let along = stretch.along;
-    match along {
-        Axis::Up => {
-            if wall.nth < 10 {
-                return 5 * size / 6 + 1;
-            }
-            7 * size / 6
-        }
-        Axis::Across => {
-            if wall.nth < 10 {
-                return 2 * size / 3 + 1;
-            }
-            size
-        }
+    match wall.stretch.way {
+        Way::Upright if wall.nth < 10 => 5 * size / 6 + 1,
+        Way::Upright => 7 * size / 6,
+        Way::Level if wall.nth < 10 => 2 * size / 3 + 1,
+        Way::Level => size,
     }
 }
 
-// A wall, marked in its middle, on white.
+// A wall, marked in its middle, on white. Where the pointer rests on the mark, it is shown where the wall runs, how long it is and how many room sides lie on it.
 fn mark_wall(rt: &impl Print, sheet: Sheet, wall: Wall) -> io::Result<()> {
-    let half = half(wall, stretches::size_of(sheet));
-    stretches::open(rt, b"wall", sheet, wall.stretch)?;
-    title(rt, wall)?;
-    stretches::ground(rt, sheet, wall.stretch, half, b"#ffffff")?;
-    stretches::open_text(rt, sheet, wall.stretch)?;
-    pen::word(rt, b">")?;
-    mark(rt, wall)?;
-    stretches::close(rt)
+    let Wall { stretch, sides, .. } = wall;
+    let look = Look {
+        class: "wall",
+        half: half(wall, stretches::size_of(sheet)),
+        ground: "#ffffff",
+        text: "",
+    };
+    let length = stretch.length();
+    stretches::mark(
+        rt,
+        sheet,
+        stretch,
+        look,
+        format_args!("wall {wall}, {stretch}, length {length}, room sides {sides}"),
+        wall,
+    )
 }
 
-// The wall in row i of a register: the upright ones come first, and each direction is counted from 1 on.
-fn listed(rows: &[u16], uprights: usize, i: usize) -> Wall
-    requires { i ≤ 65536 }
+// Wall i of a register: the upright ones come first, and each direction is counted from 1 on.
+fn wall_at(register: &Register, i: usize) -> Wall
+    requires { i ≤ 65535 }
 {
-    if i < uprights {
-        return wall_at(rows, i, Axis::Up, i + 1);
+    let held = registers::held::wall_at(&register.rows, register.uprights, i);
+    let uprights = usize::from(register.uprights);
+    let (way, nth) = if i < uprights {
+        (Way::Upright, i + 1)
+    } else {
+        (Way::Level, i - uprights + 1)
+    };
+    Wall {
+        stretch: Stretch {
+            way,
+            line: held.number,
+            from: held.begins,
+            to: held.ends,
+        },
+        nth,
+        sides: held.sides,
     }
-    wall_at(rows, i, Axis::Across, i - uprights + 1)
 }
 
 // All walls of so many rooms on a sheet, marked.
-pub fn mark_all(rt: &impl Print, sheet: Sheet, rects: &[u16], rooms: u8) -> io::Result<()> {
-    let register = registers::register_of(rects, rooms, sheet.width, sheet.height);
-    let rows = register.rows;
-    let uprights = fields::number(register.uprights);
-    let many = fields::number(register.many);
-    let mut i: usize = 0;
-    while i < many {
-        mark_wall(rt, sheet, listed(&rows, uprights, i))?;
-        i += 1;
+pub fn mark_all(rt: &impl Print, sheet: Sheet, plan: &Layout) -> io::Result<()> {
+    let register = registers::register_of(plan.rects, plan.rooms, plan.width, plan.height);
+    for i in 0..usize::from(register.many) {
+        mark_wall(rt, sheet, wall_at(&register, i))?;
     }
     Ok(())
 }

@@ -1,6 +1,6 @@
 -- The held rectangles, entries and stars asked one by one. Assumes nothing.
 use Prim.Native.Nat.{ℕ, zero, suc, ◌+◌, ◌-◌, ◌*◌, ◌<◌, ◌≤◌}
-use mathlib.Core.Path.{◌≡◌, refl, sym, ◌∙◌, ap}
+use mathlib.Core.Path.{◌≡◌, refl, sym, ap}
 use mathlib.Core.Bool.{Bool, true, false, not, ◌&&◌}
 use mathlib.Core.List.{List, [], ◌∷◌, map}
 use native.Mathlib.Omega.{arith}
@@ -14,7 +14,8 @@ use Rattle.stars.specs.Held.{to_at, entry_at, cells, place_after, link_at, links
 use Rattle.stars.proofs.Holding.{held_more, held_done}
 use Rattle.stars.proofs.Round.{links_round, links_false, links_next, links_all}
 use Rattle.drawing.specs.declared.Rect.{Rect as HeldRect}
-use Rattle.drawing.specs.Rects.{plan_from, rect_in, rect_at, rects_in}
+use Rattle.drawing.specs.declared.Layout.{Layout}
+use Rattle.drawing.specs.Rects.{rect_in, rect_at, rects_in, rects_lent, plan_lent}
 use Rattle.drawing.specs.Tests.{inside_sheet, pair_ok, two_at, ordered, star_ordered}
 
 -- in which order tests are asked does not matter
@@ -53,12 +54,6 @@ pairs_is : (j : Job) (rs : List Rect)
 unfolding pair_ok
 pairs_is j rs = rw (← pairwise_and apart (shares_joined j) rs) (pairwise_and (λ r s. apart r s && shares_joined j r s) (λ r s. not (corner r s)) rs)
 
--- the numbers of a rectangle
-pub numbers_at : (l : List ℕ) (v a b c d : ℕ) → a ≡ get_or l (4 * v) 0 → b ≡ get_or l (4 * v + 1) 0 → c ≡ get_or l (4 * v + 2) 0 → d ≡ get_or l (4 * v + 3) 0
-    → rect_in (record { vertex = v; x1 = a; y1 = b; x2 = c; y2 = d }) ≡ rect_at l v
-unfolding rect_in rect_at
-numbers_at l v a b c d ea eb ec ed = rw (ea, eb, ec, ed)
-
 -- the next rectangle, and those behind it
 module _ (l : List ℕ) (n v : ℕ) where
   -- where v is one of n vertices, its rectangle stands first, then those from v + 1 on
@@ -91,55 +86,57 @@ unfolding rects_in
 length_rects zero i l = refl
 length_rects (suc m) i l = ap suc (length_rects m (suc i) l)
 
-module _ (l : List ℕ) (n v : ℕ) where
+module _ (l : List ℕ) (n v m : ℕ) (em : m ≡ n) where
   -- a number that is no vertex has no rectangle
-  pub rect_none : n ≤ v → rect_in (record { vertex = 0; x1 = 0; y1 = 0; x2 = 0; y2 = 0 }) ≡ get_or (rects_in n 0 l) v nowhere
+  pub rect_none : m ≤ v → rect_in (record { vertex = 0; x1 = 0; y1 = 0; x2 = 0; y2 = 0 }) ≡ get_or (rects_in n 0 l) v nowhere
   unfolding rect_in
   rect_none h =
-      let p : length (rects_in n 0 l) ≤ v = omega (arith, length_rects n 0 l) in
+      let p : length (rects_in n 0 l) ≤ v = omega (arith, em, length_rects n 0 l) in
       sym (get_or-eq_default (rects_in n 0 l) nowhere p)
 
   -- what the numbers of vertex v say is its rectangle among all n
-  pub rect_here : (r : HeldRect) → v < n → rect_in r ≡ rect_at l v → rect_in r ≡ get_or (rects_in n 0 l) v nowhere
-  rect_here r h e = let z : 0 + v ≡ v = omega arith in rw (rect_in_lem n 0 v l h, z) e
+  pub rect_here : (r : HeldRect) → v < m → rect_in r ≡ rect_at l v → rect_in r ≡ get_or (rects_in n 0 l) v nowhere
+  rect_here r h e =
+      let z : 0 + v ≡ v = omega arith in
+      rw (rect_in_lem n 0 v l (omega (arith, em)), z) e
 
 -- rectangles asked one by one: r is the next
-module _ (l : List ℕ) (n v : ℕ) (w : Bool) where
+module _ (l : List ℕ) (n v m : ℕ) (w : Bool) (em : m ≡ n) where
   module _ (q : Rect → Bool) where
-    module _ (r : HeldRect) (b : Bool) (inv : all q (rects_in (n - v) v l) ≡ w) (h : v < n) (e : rect_in r ≡ rect_at l v) (g : b ≡ q (rect_in r)) where
+    module _ (r : HeldRect) (b : Bool) (inv : all q (rects_in (n - v) v l) ≡ w) (h : v < m) (e : rect_in r ≡ rect_at l v) (g : b ≡ q (rect_in r)) where
       -- where the next fails, not all pass
       pub rects_false : not b ≡ true → false ≡ w
       unfolding all
-      rects_false t = rw (rects_more l n v h, ← e, ← g, not-true b t) at inv
+      rects_false t = rw (rects_more l n v (omega (arith, em)), ← e, ← g, not-true b t) at inv
 
       -- where it passes, all pass exactly if those behind it do
       pub rects_next : not b ≡ false → all q (rects_in (n - (v + 1)) (v + 1) l) ≡ w
       unfolding all
-      rects_next t = rw (rects_more l n v h, ← e, ← g, not-false b t) at inv
+      rects_next t = rw (rects_more l n v (omega (arith, em)), ← e, ← g, not-false b t) at inv
 
     -- behind the last there is nothing left that could fail
-    pub rects_all : all q (rects_in (n - v) v l) ≡ w → n ≤ v → true ≡ w
+    pub rects_all : all q (rects_in (n - v) v l) ≡ w → m ≤ v → true ≡ w
     unfolding all
-    rects_all inv h = rw (rects_done l n v h) at inv
+    rects_all inv h = rw (rects_done l n v (omega (arith, em))) at inv
 
   -- and each with those behind it
   module _ (q : Rect → Rect → Bool) where
-    module _ (r : HeldRect) (b : Bool) (inv : pairwise q (rects_in (n - v) v l) ≡ w) (h : v < n) (e : rect_in r ≡ rect_at l v)
+    module _ (r : HeldRect) (b : Bool) (inv : pairwise q (rects_in (n - v) v l) ≡ w) (h : v < m) (e : rect_in r ≡ rect_at l v)
         (g : b ≡ all (q (rect_in r)) (rects_in (n - (v + 1)) (v + 1) l)) where
       -- where the next fails with one behind it, not all pairs pass
       pub pairs_false : not b ≡ true → false ≡ w
       unfolding pairwise
-      pairs_false t = rw (rects_more l n v h, ← e, ← g, not-true b t) at inv
+      pairs_false t = rw (rects_more l n v (omega (arith, em)), ← e, ← g, not-true b t) at inv
 
       -- where it passes with each behind it, all pairs pass exactly if the pairs behind it do
       pub pairs_next : not b ≡ false → pairwise q (rects_in (n - (v + 1)) (v + 1) l) ≡ w
       unfolding pairwise
-      pairs_next t = rw (rects_more l n v h, ← e, ← g, not-false b t) at inv
+      pairs_next t = rw (rects_more l n v (omega (arith, em)), ← e, ← g, not-false b t) at inv
 
     -- behind the last there is no pair left that could fail
-    pub pairs_all : pairwise q (rects_in (n - v) v l) ≡ w → n ≤ v → true ≡ w
+    pub pairs_all : pairwise q (rects_in (n - v) v l) ≡ w → m ≤ v → true ≡ w
     unfolding pairwise
-    pairs_all inv h = rw (rects_done l n v h) at inv
+    pairs_all inv h = rw (rects_done l n v (omega (arith, em))) at inv
 
 -- once round a star, a place at a time: n is the place behind k
 module _ (rs : List Rect) (nbr kind : List ℕ) (start end k : ℕ) (w : Bool) where
@@ -187,24 +184,20 @@ module _ (ends nbr kind : List ℕ) (n i : ℕ) (w : Bool) (q : Star → Bool) w
   stars_all inv h = rw (held_done ends nbr kind n i h) at inv
 
 -- the areas, added up
-module _ (l : List ℕ) (n v w total : ℕ) where
+module _ (l : List ℕ) (n v m w total : ℕ) (em : m ≡ n) where
   -- the next area added to the sum so far: with those behind it, the whole stays
-  pub sum_next : (a : ℕ) (r : HeldRect) → total + sum (map area (rects_in (n - v) v l)) ≡ w → v < n → rect_in r ≡ rect_at l v → a ≡ area (rect_in r)
+  pub sum_next : (a : ℕ) (r : HeldRect) → total + sum (map area (rects_in (n - v) v l)) ≡ w → v < m → rect_in r ≡ rect_at l v → a ≡ area (rect_in r)
       → total + a + sum (map area (rects_in (n - (v + 1)) (v + 1) l)) ≡ w
   unfolding sum
   sum_next a r inv h e f =
-      let i : total + (area (rect_at l v) + sum (map area (rects_in (n - (v + 1)) (v + 1) l))) ≡ w = rw (rects_more l n v h) at inv in
+      let i : total + (area (rect_at l v) + sum (map area (rects_in (n - (v + 1)) (v + 1) l))) ≡ w = rw (rects_more l n v (omega (arith, em))) at inv in
       let g : a ≡ area (rect_at l v) = rw (← e) f in
       omega arith
 
   -- behind the last, the sum so far is the whole
-  pub sum_done : total + sum (map area (rects_in (n - v) v l)) ≡ w → n ≤ v → total ≡ w
+  pub sum_done : total + sum (map area (rects_in (n - v) v l)) ≡ w → m ≤ v → total ≡ w
   unfolding sum
-  sum_done inv h = let i : total + 0 ≡ w = rw (rects_done l n v h) at inv in omega arith
-
--- they fill the sheet
-pub fills : (a b m n x y : ℕ) → a ≡ b → m ≡ x → n ≡ y → eqb a (m * n) ≡ eqb b (x * y)
-fills a b m n x y e f g = rw (e, f, g)
+  sum_done inv h = let i : total + 0 ≡ w = rw (rects_done l n v (omega (arith, em))) at inv in omega arith
 
 -- two entries
 module _ (rs : List Rect) (nbr kind : List ℕ) (a b : ℕ) (k m : ℕ) (ek : k ≡ get_or kind a 0) (em : m ≡ get_or kind b 0) where
@@ -225,49 +218,19 @@ pub star_whole : (rs : List Rect) (ends nbr kind : List ℕ) (i x y : ℕ) (t : 
 unfolding held_star
 star_whole rs ends nbr kind i x y t ex ey e = rw (← ex, ← ey) e
 
--- the rectangle of a vertex, of so many rooms
-pub rect_known : (l : List ℕ) (rooms n v : ℕ) (r : HeldRect) → n ≡ rooms → rect_in r ≡ get_or (rects_in (n + 4) 0 l) v nowhere
-    → rect_in r ≡ get_or (rects_in (rooms + 4) 0 l) v nowhere
-rect_known l rooms n v r e f = rw (← e) f
-
--- the drawing test of so many rectangles on a sheet
-module _ (j : Job) (w h many : ℕ) (l : List ℕ) where
-  -- the rectangles
-  abbrev placed : List Rect
-  placed = rects_in many 0 l
-
-  -- with all that is asked of two rectangles in one place
-  drawable_is : drawable j (plan_from w h many l)
-      ≡ (all (inside_sheet w h) placed
-      && eqb (sum (map area placed)) (w * h)
-      && pairwise (pair_ok j) placed
-      && all (star_ordered placed) j)
-  unfolding drawable round_in_order inside inside_sheet star_ordered ordered in_order rect_of
-  drawable_is =
-      rw (pairs_is j placed)
-      (reorder
-      (all (inside_sheet w h) placed)
-      (pairwise apart placed)
-      (eqb (sum (map area placed)) (w * h))
-      (pairwise (shares_joined j) placed)
-      (pairwise (λ r s. not (corner r s)) placed)
-      (all (star_ordered placed) j))
-
-  module _ (a : Bool) (ea : a ≡ all (inside_sheet w h) placed) where
-    -- it fails where a rectangle is not inside the sheet
-    pub drawable_outside : not a ≡ true → false ≡ drawable j (plan_from w h many l)
-    drawable_outside t = rw (drawable_is, ← ea, not-true a t)
-
-    module _ (b : Bool) (ta : not a ≡ false) (eb : b ≡ eqb (sum (map area placed)) (w * h)) where
-      -- it fails where the areas do not add up to width times height
-      pub drawable_gap : not b ≡ true → false ≡ drawable j (plan_from w h many l)
-      drawable_gap t = rw (drawable_is, ← ea, not-false a ta, ← eb, not-true b t)
-
-      module _ (c : Bool) (tb : not b ≡ false) (ec : c ≡ pairwise (pair_ok j) placed) where
-        -- it fails where two share a cell, share a wall and are not joined, or meet only at a corner
-        pub drawable_pair : not c ≡ true → false ≡ drawable j (plan_from w h many l)
-        drawable_pair t = rw (drawable_is, ← ea, not-false a ta, ← eb, not-false b tb, ← ec, not-true c t)
-
-        -- else it comes to whether the neighbours of one kind stand in order in every star
-        pub drawable_order : (d : Bool) → not c ≡ false → d ≡ all (star_ordered placed) j → d ≡ drawable j (plan_from w h many l)
-        drawable_order d tc ed = ed ∙ sym (rw (drawable_is, ← ea, not-false a ta, ← eb, not-false b tb, ← ec, not-false c tc))
+-- the drawing test of a plan as it is lent, with all that is asked of two rectangles in one place
+pub drawable_is : (j : Job) (p : Layout) → drawable j (plan_lent p)
+    ≡ (all (inside_sheet p.width p.height) (rects_lent p)
+    && eqb (sum (map area (rects_lent p))) (p.width * p.height)
+    && pairwise (pair_ok j) (rects_lent p)
+    && all (star_ordered (rects_lent p)) j)
+unfolding drawable round_in_order inside inside_sheet star_ordered ordered in_order rect_of
+drawable_is j p =
+    rw (pairs_is j (rects_lent p))
+    (reorder
+    (all (inside_sheet p.width p.height) (rects_lent p))
+    (pairwise apart (rects_lent p))
+    (eqb (sum (map area (rects_lent p))) (p.width * p.height))
+    (pairwise (shares_joined j) (rects_lent p))
+    (pairwise (λ r s. not (corner r s)) (rects_lent p))
+    (all (star_ordered (rects_lent p)) j))

@@ -19,44 +19,42 @@ use Rattle.floor.specs.Plans.Held.{Drawn as Came}
 use Rattle.floor.proofs.Plans.Held.{one_number, not_held, drawn_held, drawable_is_floor, held_good, held_roomy, eighteen, nine}
 use Rattle.floor.specs.Floor.{Complete, Floor, Roomy}
 use Rattle.floor.proofs.Floor.Touches.{one_side, one_length, not_clear}
-use Rattle.fields.specs.declared.Written.{Written}
+use Rattle.std.specs.Prelude.{Result, Ok, Err}
+use Rattle.refusals.specs.declared.Refusal.{Refusal}
+use Rattle.refusals.specs.declared.Refusal.TheVariants.{NoFloor, TooLarge}
+use Rattle.refusals.specs.Numbers.{number_of}
+use Rattle.refusals.proofs.Same.{same_refusal}
 use Rattle.fields.specs.Writes.{replied, writing}
 use Rattle.fields.proofs.Corollaries.{one_answer, one_written}
 use Rattle.walls.specs.Numbers.{numbers_in}
 use Rattle.walls.proofs.Corollaries.{by_definition}
-use Rattle.drawing.specs.declared.Answer.{Answer as Said}
-use Rattle.drawing.specs.declared.Answer.TheVariants.{Drawn, Refused}
 use Rattle.drawing.specs.declared.Rect.{Rect as HeldRect}
 use Rattle.drawing.specs.declared.Touch.{Touch as Touching}
 use Rattle.drawing.specs.declared.Touch.TheVariants.{Clear, Wall}
 use Rattle.drawing.specs.declared.Plan.{Plan as HeldPlan}
-use Rattle.drawing.specs.declared.Drawing.{Drawing}
 use Rattle.drawing.specs.Rects.{rect_in, touch_in, rects_in, plan_from, plan_in, in_bytes, held_plan}
 use Rattle.drawing.specs.Drawn.{fitted, by_numbers, numbered_any, drawn_any, said, Draws}
 use Rattle.drawing.proofs.Asking.{length_rects}
 use Rattle.drawing.proofs.Judging.{held_back}
 
--- two answers that say the same of a job and a plan are equal
-same_answer : (a b : Said) (o : SizedJob) (p : Plan) (x : Answer) → said a o p ≡ x → said b o p ≡ x → a ≡ b
+-- results of equal plans are equal
+same_plan : {p q : HeldPlan} → p ≡ q → ◌≡◌ {A = Result HeldPlan Refusal} (Ok p) (Ok q)
+same_plan e = ap Ok e
+
+-- results of refusals of one number are equal
+same_error : {k l : Refusal} → number_of k ≡ number_of l → ◌≡◌ {A = Result HeldPlan Refusal} (Err k) (Err l)
+same_error {k} {l} e = ap Err (same_refusal k l e)
+
+-- THE PROMISES OF `plan_stars` AND `draw` ALLOW ONE RESULT: one refusal, or one plan
+pub one_drawing : (o : SizedJob) (x : Answer) (r t : Result HeldPlan Refusal) → Draws r o x → Draws t o x → r ≡ t
 unfolding said
-same_answer Drawn Drawn o p x e f = refl
-same_answer Drawn (Refused k) o p x e f = not_held (f ∙ sym e)
-same_answer (Refused k) Drawn o p x e f = not_held (e ∙ sym f)
-same_answer (Refused k) (Refused l) o p x e f = let n : k ≡ l = one_number (e ∙ sym f) in cc
-
--- drawings with the same answer and the same plan are one
-same_fields : (a b : Said) (p q : HeldPlan) → a ≡ b → p ≡ q → ◌≡◌ {A = Drawing} (record { answer = a; plan = p }) (record { answer = b; plan = q })
-same_fields a b p q e f = rw (e, f)
-
--- THE PROMISES OF `plan_stars` AND `draw` ALLOW ONE ANSWER AND ONE PLAN
-pub one_drawing : (o : SizedJob) (x : Answer) (r t : Drawing) → Draws r o x → Draws t o x → r ≡ t
-one_drawing o x r t d e =
-    let p : r.plan ≡ t.plan = d.keeps ∙ sym e.keeps in
-    let a : r.answer ≡ t.answer = same_answer r.answer t.answer o (plan_in t.plan) x (rw p at d.says) e.says in
-    same_fields r.answer t.answer r.plan t.plan a p
+one_drawing o x (Ok p) (Ok q) d e = same_plan (d.keeps p refl ∙ sym (e.keeps q refl))
+one_drawing o x (Ok p) (Err l) d e = not_held (e.says ∙ sym d.says)
+one_drawing o x (Err k) (Ok q) d e = not_held (d.says ∙ sym e.says)
+one_drawing o x (Err k) (Err l) d e = same_error (one_number (d.says ∙ sym e.says))
 
 -- THE PROMISE OF `write_plan` ALLOWS ONE ANSWER AND ONE BUFFER
-pub one_plan_writing : (p : Plan) (o : List ℕ) (a b : Written) (x y : List ℕ)
+pub one_plan_writing : (p : Plan) (o : List ℕ) (a b : Result ℕ Refusal) (x y : List ℕ)
     → (replied a ≡ (writing (in_bytes (write_plan p)) o).reply) × (x ≡ (writing (in_bytes (write_plan p)) o).buffer)
     → (replied b ≡ (writing (in_bytes (write_plan p)) o).reply) × (y ≡ (writing (in_bytes (write_plan p)) o).buffer) → (a ≡ b) × (x ≡ y)
 one_plan_writing p o a b x y v w = one_written (in_bytes (write_plan p)) o a b x y v w
@@ -142,38 +140,54 @@ module _ (o : SizedJob) (rooms : test2 (length o.stars) ≡ true) (ok : Passes o
   unfolding numbered_any by_numbers fitted
   numbered_any_lem f g ef eg = rw (defined upright, defined level, ef, eg)
 
-  module _ (r : Drawing) (d : Draws r o (drawn_any o)) where
+  module _ (r : Result HeldPlan Refusal) (d : Draws r o (drawn_any o)) where
     -- what is answered is what drawing the job comes to
-    says_drawn : said r.answer o (plan_in r.plan) ≡ drawn o
+    says_drawn : said r o ≡ drawn o
     says_drawn = d.says ∙ drawn_any_lem
 
-    -- what is drawn came from the job's numbers, past tests 18 and 9
-    from_numbers : r.answer ≡ Drawn → Came o (plan_in r.plan)
+    module _ (p : HeldPlan) (e : r ≡ Ok p) where
+      -- what is drawn came from the job's numbers, past tests 18 and 9
+      from_numbers : Came o (plan_in p)
+      unfolding said
+      from_numbers = (drawn_held o o (plan_in p) (sym says_drawn ∙ rw e)).1
+
+      -- WHAT IS DRAWN IS A FLOOR PLAN
+      pub drawn_floor : Floor o.stars (plan_in p)
+      drawn_floor = (held_good o ok some_room (plan_in p) from_numbers).floor
+
+      -- in which every room has at least its size
+      pub drawn_roomy : Roomy o.stars o.sizes (plan_in p)
+      drawn_roomy = held_roomy o ok some_room (plan_in p) from_numbers
+
+    -- a refusal of number k is answered where drawing the job is refused by it
+    refused_by : (t : Result HeldPlan Refusal) (k : ℕ) → said t o ≡ refused k → (l : Refusal) × (t ≡ Err l) × (number_of l ≡ k)
     unfolding said
-    from_numbers e = (drawn_held o o (plan_in r.plan) (sym says_drawn ∙ rw e)).1
+    refused_by (Ok p) k e = not_held (sym e)
+    refused_by (Err l) k e = (l, refl, one_number e)
 
-    -- WHAT IS DRAWN IS A FLOOR PLAN
-    pub drawn_floor : r.answer ≡ Drawn → Floor o.stars (plan_in r.plan)
-    drawn_floor e = (held_good o ok some_room (plan_in r.plan) (from_numbers e)).floor
-
-    -- in which every room has at least its size
-    pub drawn_roomy : r.answer ≡ Drawn → Roomy o.stars o.sizes (plan_in r.plan)
-    drawn_roomy e = held_roomy o ok some_room (plan_in r.plan) (from_numbers e)
-
-    -- THE ANSWER IS REFUSAL k exactly when drawing the job is
-    pub refused_exactly : (k : ℕ) → (r.answer ≡ Refused k) ↔ (drawn o ≡ refused k)
+    -- THE ANSWER IS THE REFUSAL OF NUMBER k exactly when drawing the job is
+    pub refused_exactly : (k : ℕ) → ((l : Refusal) × (r ≡ Err l) × (number_of l ≡ k)) ↔ (drawn o ≡ refused k)
     unfolding said
-    refused_exactly k = (λ e. sym says_drawn ∙ rw e, λ e. same_answer r.answer (Refused k) o (plan_in r.plan) (refused k) (says_drawn ∙ e) refl)
+    refused_exactly k = (λ (l, e, n). sym says_drawn ∙ rw (e, n), λ e. refused_by r k (says_drawn ∙ e))
+
+    -- so of a refusal by its name
+    pub refused_named : (l : Refusal) → (r ≡ Err l) ↔ (drawn o ≡ refused (number_of l))
+    refused_named l = (
+      λ e. (refused_exactly (number_of l)).0 (l, e, refl),
+      λ e. let (t, f, n) = (refused_exactly (number_of l)).1 e in f ∙ same_error n,
+    )
 
     module _ (f g : List ℕ) (ef : job_numbers upright o.stars o.sizes ≡ some f) (eg : job_numbers level o.stars o.sizes ≡ some g) where
       -- THE ANSWER IS REFUSAL 18, for a numbered job, exactly when the sheet of the plan by its wall numbers is over the limit
-      pub refused_eighteen : (r.answer ≡ Refused 18) ↔ Over (plan_of o.stars (at f) (at g))
+      pub refused_eighteen : (r ≡ Err TooLarge) ↔ Over (plan_of o.stars (at f) (at g))
+      unfolding number_of
       refused_eighteen =
           let n : (drawn o ≡ refused 18) ↔ Over (plan_of o.stars (at f) (at g)) = eighteen o f g ef eg in
-          (λ e. n.0 ((refused_exactly 18).0 e), λ h. (refused_exactly 18).1 (n.1 h))
+          (λ e. n.0 ((refused_named TooLarge).0 e), λ h. (refused_named TooLarge).1 (n.1 h))
 
       -- THE ANSWER IS REFUSAL 9, for a numbered job on a sheet within the limit, exactly when the plan by its wall numbers is no floor plan
-      pub refused_nine : test18 (plan_of o.stars (at f) (at g)) ≡ true → (r.answer ≡ Refused 9) ↔ (Floor o.stars (plan_of o.stars (at f) (at g)) → ⊥)
+      pub refused_nine : test18 (plan_of o.stars (at f) (at g)) ≡ true → (r ≡ Err NoFloor) ↔ (Floor o.stars (plan_of o.stars (at f) (at g)) → ⊥)
+      unfolding number_of
       refused_nine t =
           let n : (drawn o ≡ refused 9) ↔ (Floor o.stars (plan_of o.stars (at f) (at g)) → ⊥) = nine o ok some_room f g ef eg t in
-          (λ e. n.0 ((refused_exactly 9).0 e), λ h. (refused_exactly 9).1 (n.1 h))
+          (λ e. n.0 ((refused_named NoFloor).0 e), λ h. (refused_named NoFloor).1 (n.1 h))

@@ -6,7 +6,7 @@ use mathlib.Core.Bool.{Bool, true, false, not, ◌&&◌}
 use mathlib.Core.Option.{Option, none, some}
 use mathlib.Core.List.{List, [], ◌∷◌, ◌++◌, map, append_assoc}
 use native.Mathlib.Omega.{arith}
-use borrow.Author.Tests.{le-leb, lt-leb, leb-true, not-true, not-false}
+use borrow.Author.Tests.{leb-true, not-true, not-false}
 use lib.Dec.{leb}
 use lib.ListN.{length, get_or, drop, length-append, length-replicate}
 use lib.Seq.{sets, sets-eq, get_or-append-add}
@@ -20,16 +20,17 @@ use Rattle.floor.specs.Floor.{Complete}
 use Rattle.floor.proofs.Floor.Ours.{plan_complete}
 use Rattle.stars.specs.Held.{job_in}
 use Rattle.stars.proofs.Holding.{length_stars}
-use Rattle.walls.specs.declared.Answer.TheVariants.{Numbered, Circle}
+use Rattle.std.specs.Prelude.{Result, Ok, Err, Option as Optional, Some, None}
+use Rattle.refusals.specs.declared.Refusal.{Refusal}
+use Rattle.refusals.specs.declared.Refusal.TheVariants.{Circle, NoFloor, TooLarge}
+use Rattle.refusals.specs.Numbers.{number_of}
 use Rattle.walls.specs.declared.Walls.{Walls}
 use Rattle.walls.specs.declared.Sides.{Sides}
 use Rattle.walls.specs.declared.Sheet.{Sheet}
 use Rattle.walls.specs.Numbers.{numbers_in, walls_of, sheet_of}
 use Rattle.walls.proofs.Corollaries.{Reads, Counted, counted, circled}
-use Rattle.drawing.specs.declared.Answer.TheVariants.{Drawn, Refused}
 use Rattle.drawing.specs.declared.Plan.{Plan as HeldPlan}
-use Rattle.drawing.specs.declared.Drawing.{Drawing}
-use Rattle.drawing.specs.Rects.{rect_at, rects_in, plan_from, plan_in, flat, noughts, no_plan, held_plan}
+use Rattle.drawing.specs.Rects.{rect_at, rects_in, plan_in, flat, noughts, held_plan}
 use Rattle.drawing.specs.Drawn.{fitted, by_numbers, numbered_any, drawn_any, walled_by, walled, frame, plan_by, plan_on, said, kept, Draws}
 
 -- ---- what is held of a plan gives it back
@@ -124,22 +125,25 @@ module _ (j : Job) (w : Walls) (f g : ℕ → ℕ) (r : Reads w (length j + 4) f
       let e₂ : get_or w.levels.0 (low 0) 0 + 1 ≡ g (low 0) + 1 = ap (λ (s : Sheet). s.height) r.sheet in
       rw (e₁, e₂, map_same (walled w) (room_rect f g) 4 (length j) room_same)
 
--- ---- test 18, as it is asked of a sheet
-
--- a sheet that is too wide does not fit
-pub sheet_wide : (s : Sheet) → 250 < s.width → false ≡ (leb s.width 250 && leb s.height 250)
-sheet_wide s h = rw (lt-leb s.width 250 h)
-
--- one that is not too wide fits exactly if it is not too high
-pub sheet_high : (s : Sheet) → s.width ≤ 250 → leb s.height 250 ≡ (leb s.width 250 && leb s.height 250)
-sheet_high s h = rw (le-leb s.width 250 h)
-
 -- ---- the answers
 
--- a drawing that says refusal k and keeps no plan tells of an answer that is refusal k
-refuses : (r : Drawing) (o : SizedJob) (x : Answer) (k : ℕ) → x ≡ refused k → (r.answer ≡ Refused k) × (r.plan ≡ no_plan) → Draws r o x
-unfolding said kept
-refuses r o x k e p = record { says = rw (p.0, e); keeps = rw e p.1 }
+-- results that give plans give one plan where they are equal
+ok_same : {p q : HeldPlan} → ◌≡◌ {A = Result HeldPlan Refusal} (Ok p) (Ok q) → p ≡ q
+ok_same e = cc
+
+-- a refusal gives none
+no_plan_given : {k : Refusal} {p : HeldPlan} → ◌≡◌ {A = Result HeldPlan Refusal} (Err k) (Ok p) → ⊥
+no_plan_given e = let z : ◌≡◌ {A = ℕ} 0 1 = cc in omega arith
+
+-- a refusal tells of an answer that is refused by its number
+refuses : (k : Refusal) (o : SizedJob) (x : Answer) → x ≡ refused (number_of k) → Draws (Err k) o x
+unfolding said
+refuses k o x e = record { says = sym e; keeps = λ p f. absurd (no_plan_given f) }
+
+-- a plan tells of an answer that holds it
+gives : (h : HeldPlan) (o : SizedJob) (x : Answer) → x ≡ held o (plan_in h) → h ≡ kept x → Draws (Ok h) o x
+unfolding said
+gives h o x e f = record { says = sym e; keeps = λ p g. sym (ok_same g) ∙ f }
 
 -- numbers that are there are not missing
 not_some : {f : List ℕ} → some f ≡ none → ⊥
@@ -154,18 +158,18 @@ none_seven o (some f) none h = refl
 none_seven o (some f) (some g) (inl e) = absurd (not_some e)
 none_seven o (some f) (some g) (inr e) = absurd (not_some e)
 
-module _ (o : SizedJob) (w : Walls) (ew : w ≡ walls_of o.stars o.sizes) where
+module _ (o : SizedJob) (r : Optional Walls) (er : r ≡ walls_of o.stars o.sizes) where
   -- 7: the walls run in a circle
-  pub seven_numbered : (r : Drawing) → w.answer ≡ Circle → (r.answer ≡ Refused 7) × (r.plan ≡ no_plan) → Draws r o (numbered_any o)
-  unfolding numbered_any
-  seven_numbered r c p =
-      refuses r o (numbered_any o) 7 (none_seven o (numbers_in upright o.stars o.sizes) (numbers_in level o.stars o.sizes)
-      (circled o.stars o.sizes (ap (λ (x : Walls). x.answer) (sym ew) ∙ c))) p
+  pub seven_numbered : r ≡ None → Draws (Err Circle) o (numbered_any o)
+  unfolding numbered_any number_of
+  seven_numbered n =
+      refuses Circle o (numbered_any o) (none_seven o (numbers_in upright o.stars o.sizes) (numbers_in level o.stars o.sizes)
+      (circled o.stars o.sizes (sym er ∙ n)))
 
-  module _ (num : w.answer ≡ Numbered) where
-    -- the walls are numbered: both directions have numbers, and the walls hold them
-    c : Counted o.stars o.sizes (walls_of o.stars o.sizes)
-    c = counted o.stars o.sizes (ap (λ (x : Walls). x.answer) (sym ew) ∙ num)
+  module _ (w : Walls) (some_walls : r ≡ Some w) where
+    -- both directions have numbers, and the walls hold them
+    c : Counted o.stars o.sizes w
+    c = counted o.stars o.sizes w (sym er ∙ some_walls)
 
     -- the plan by wall numbers
     abbrev p : Plan
@@ -186,7 +190,7 @@ module _ (o : SizedJob) (w : Walls) (ew : w ≡ walls_of o.stars o.sizes) where
       sheet_is : (s.width ≡ p.width) × (s.height ≡ p.height)
       unfolding plan_of
       sheet_is =
-          let e : s ≡ record { width = at c.xs (low 3) + 1; height = at c.ys (low 0) + 1 } = es ∙ ap (λ (v : Walls). sheet_of v) ew ∙ c.reads.sheet in
+          let e : s ≡ record { width = at c.xs (low 3) + 1; height = at c.ys (low 0) + 1 } = es ∙ c.reads.sheet in
           (ap (λ (q : Sheet). q.width) e, ap (λ (q : Sheet). q.height) e)
 
       -- what is answered is test 18 of the plan
@@ -195,9 +199,9 @@ module _ (o : SizedJob) (w : Walls) (ew : w ≡ walls_of o.stars o.sizes) where
       sheet_tested = eb ∙ rw (sheet_is.0, sheet_is.1)
 
       -- 18: the sheet is over the limit
-      pub eighteen_numbered : (r : Drawing) → not b ≡ true → (r.answer ≡ Refused 18) × (r.plan ≡ no_plan) → Draws r o (numbered_any o)
-      unfolding fitted
-      eighteen_numbered r f q = refuses r o (numbered_any o) 18 (numbered_fitted ∙ past_false (test18 p) 18 _ (sym sheet_tested ∙ not-true b f)) q
+      pub eighteen_numbered : not b ≡ true → Draws (Err TooLarge) o (numbered_any o)
+      unfolding fitted number_of
+      eighteen_numbered f = refuses TooLarge o (numbered_any o) (numbered_fitted ∙ past_false (test18 p) 18 _ (sym sheet_tested ∙ not-true b f))
 
       module _ (f : not b ≡ false) where
         -- the sheet is within the limit
@@ -214,22 +218,20 @@ module _ (o : SizedJob) (w : Walls) (ew : w ≡ walls_of o.stars o.sizes) where
             (within.0, omega (arith, x), within.1, omega (arith, y), omega (arith, few_rooms))
 
         -- the plan by wall numbers is held
-        pub all_numbered : (h : HeldPlan) (n : ℕ) → n ≡ length o.stars → h ≡ held_plan (plan_on w s n)
-            → Draws (record { answer = Drawn; plan = h }) o (numbered_any o)
-        unfolding said kept fitted
+        pub all_numbered : (h : HeldPlan) (n : ℕ) → n ≡ length o.stars → h ≡ held_plan (plan_on w s n) → Draws (Ok h) o (numbered_any o)
+        unfolding kept fitted
         all_numbered h n en eh =
-            rw (numbered_fitted ∙ past_true (test18 p) 18 _ (sym sheet_tested ∙ not-false b f)) (record {
-              says = ap (held o) (ap plan_in held_is ∙ held_back o.stars p (plan_complete o.stars (at c.xs) (at c.ys)) few_rooms);
-              keeps = held_is;
-            })
+            let e : numbered_any o ≡ held o p = numbered_fitted ∙ past_true (test18 p) 18 _ (sym sheet_tested ∙ not-false b f) in
+            gives h o (numbered_any o)
+            (e ∙ sym (ap (held o) (ap plan_in held_is ∙ held_back o.stars p (plan_complete o.stars (at c.xs) (at c.ys)) few_rooms)))
+            (held_is ∙ sym (ap kept e))
           where
             held_is : h ≡ held_plan p
             held_is =
                 eh
                 ∙ ap held_plan (ap (λ (m : ℕ). plan_on w s m) en
                 ∙ ap (λ (q : Sheet). plan_on w q (length o.stars)) es
-                ∙ ap (λ (x : Walls). plan_on x (sheet_of x) (length o.stars)) ew
-                ∙ plan_same o.stars (walls_of o.stars o.sizes) (at c.xs) (at c.ys) c.reads)
+                ∙ plan_same o.stars w (at c.xs) (at c.ys) c.reads)
 
 -- ---- test 9 of what is numbered
 
@@ -258,42 +260,36 @@ numbered_tested o = go (numbers_in upright o.stars o.sizes) (numbers_in level o.
     go (some f) none = unfold planned by_numbers then_tested in refl
     go (some f) (some g) = unfold planned by_numbers in fitted_tested o (plan_of o.stars (at f) (at g))
 
-module _ (o : SizedJob) (r : Drawing) (d : Draws r o (numbered_any o)) where
-  -- 7 and 18 stay
-  pub undrawn : (k : ℕ) → r.answer ≡ Refused k → (t : Drawing) → (t.answer ≡ Refused k) × (t.plan ≡ no_plan) → Draws t o (drawn_any o)
-  unfolding said then_tested
-  undrawn k e t q =
-      let f : numbered_any o ≡ refused k = sym (rw e at d.says) in
-      refuses t o (drawn_any o) k (numbered_tested o ∙ ap then_tested f) q
+-- 7 and 18 stay
+pub undrawn : (o : SizedJob) (k : Refusal) → Draws (Err k) o (numbered_any o) → Draws (Err k) o (drawn_any o)
+unfolding said then_tested
+undrawn o k d = refuses k o (drawn_any o) (numbered_tested o ∙ ap then_tested (sym d.says))
 
-  module _ (e : r.answer ≡ Drawn) (m : ℕ) (em : m ≡ r.plan.rooms) (b : Bool)
-      (eb : b ≡ drawable o.stars (plan_from r.plan.width r.plan.height (m + 4) r.plan.rects)) where
-    -- numbering the job comes to the plan that is kept
-    numbered_is : numbered_any o ≡ held o (plan_in r.plan)
-    unfolding said
-    numbered_is = sym (rw e at d.says)
+module _ (o : SizedJob) (p : HeldPlan) (d : Draws (Ok p) o (numbered_any o)) (q : Plan) (eq : q ≡ plan_in p) (b : Bool) (eb : b ≡ drawable o.stars q) where
+  -- numbering the job comes to the plan that is kept
+  numbered_is : numbered_any o ≡ held o (plan_in p)
+  unfolding said
+  numbered_is = sym d.says
 
-    -- drawing the job comes to test 9 of that plan
-    drawn_tested : drawn_any o ≡ past (drawable o.stars (plan_in r.plan)) 9 (λ _. held o (plan_in r.plan))
-    unfolding then_tested
-    drawn_tested = numbered_tested o ∙ ap then_tested numbered_is
+  -- drawing the job comes to test 9 of that plan
+  drawn_tested : drawn_any o ≡ past (drawable o.stars (plan_in p)) 9 (λ _. held o (plan_in p))
+  unfolding then_tested
+  drawn_tested = numbered_tested o ∙ ap then_tested numbered_is
 
-    -- what is answered is the drawing test of that plan
-    draws : b ≡ drawable o.stars (plan_in r.plan)
-    unfolding plan_in
-    draws = rw em at eb
+  -- what is answered is the drawing test of that plan
+  tested_is : b ≡ drawable o.stars (plan_in p)
+  tested_is = eb ∙ ap (drawable o.stars) eq
 
-    -- 9: the drawing test fails
-    pub nine_drawn : not b ≡ true → (t : Drawing) → (t.answer ≡ Refused 9) × (t.plan ≡ no_plan) → Draws t o (drawn_any o)
-    nine_drawn f t q =
-        refuses t o (drawn_any o) 9 (drawn_tested ∙ past_false (drawable o.stars (plan_in r.plan)) 9 _ (sym draws ∙ not-true b f)) q
+  -- 9: the drawing test fails
+  pub nine_drawn : not b ≡ true → Draws (Err NoFloor) o (drawn_any o)
+  unfolding number_of
+  nine_drawn f = refuses NoFloor o (drawn_any o) (drawn_tested ∙ past_false (drawable o.stars (plan_in p)) 9 _ (sym tested_is ∙ not-true b f))
 
-    -- what is numbered is drawn
-    pub all_drawn : not b ≡ false → Draws r o (drawn_any o)
-    all_drawn f =
-        let g : drawn_any o ≡ numbered_any o =
-        drawn_tested ∙ past_true (drawable o.stars (plan_in r.plan)) 9 _ (sym draws ∙ not-false b f) ∙ sym numbered_is in
-        rw g d
+  -- what is numbered is drawn
+  pub all_drawn : not b ≡ false → Draws (Ok p) o (drawn_any o)
+  all_drawn f =
+      let g : drawn_any o ≡ held o (plan_in p) = drawn_tested ∙ past_true (drawable o.stars (plan_in p)) 9 _ (sym tested_is ∙ not-false b f) in
+      gives p o (drawn_any o) g (d.keeps p refl ∙ ap kept (numbered_is ∙ sym g))
 
 -- held stars are as many as the job has
 pub stars_many : (n : ℕ) (ends nbr kind : List ℕ) → n ≡ length (job_in n ends nbr kind)

@@ -1,10 +1,11 @@
 -- Rectangles put at their vertices, as the code comes by them. Assumes nothing.
 use Prim.Native.Nat.{ℕ, suc, ◌+◌, ◌*◌, ◌-◌, ◌<◌, ◌≤◌}
-use mathlib.Core.Path.{◌≡◌, refl, ap, ◌∙◌}
-use mathlib.Core.List.{List, [], ◌∷◌, ◌++◌, map}
+use mathlib.Core.Path.{◌≡◌, refl, sym, ap, ◌∙◌}
+use mathlib.Core.List.{List, [], ◌∷◌, ◌++◌, map, append_assoc}
 use native.Mathlib.Omega.{arith}
-use lib.ListN.{length, set, replicate, length-append, length-map}
-use lib.Seq.{sets}
+use lib.ListN.{length, take, drop, replicate, length-append, length-map}
+use lib.Seq.{sets, sets-eq, drop-drop}
+use borrow.Rule.Slice.PartMut.{put_mid, post_of}
 use Rattle.floor.specs.Lists.{up_from}
 use Rattle.floor.proofs.Lists.Laws.{length_up_from}
 use Rattle.floor.specs.Plans.{Rect, room_rect}
@@ -13,23 +14,21 @@ use Rattle.walls.specs.declared.Sheet.{Sheet}
 use Rattle.walls.specs.declared.Sides.{Sides}
 use Rattle.walls.specs.Numbers.{sides_at}
 use Rattle.drawing.specs.declared.Rect.{Rect as HeldRect}
-use Rattle.drawing.specs.Rects.{rect_in, flat, put_four, noughts, no_plan, held_plan}
+use Rattle.drawing.specs.Rects.{rect_in, flat, noughts, held_plan}
 use Rattle.drawing.specs.Drawn.{walled_by, frame, plan_by}
 
--- a rectangle's four numbers
-pub four_put : (o : List ℕ) (v a b c d : ℕ)
-    → set (set (set (set o (4 * v) a) (4 * v + 1) b) (4 * v + 2) c) (4 * v + 3) d ≡ put_four o v a b c d
-unfolding put_four
-four_put o v a b c d =
-    let e₁ : 4 * v + 1 ≡ suc (4 * v) = omega arith in
-    let e₂ : 4 * v + 2 ≡ suc (suc (4 * v)) = omega arith in
-    let e₃ : 4 * v + 3 ≡ suc (suc (suc (4 * v))) = omega arith in
-    rw (e₁, e₂, e₃)
+-- four numbers put in the place of as many
+pub four_put : (o l n : List ℕ) (k m : ℕ) → n ≡ l → length l ≡ 4 → m ≡ 4 → k + 4 ≤ length o → put_mid k m o n ≡ sets o k l
+four_put o l n k m e f g h =
+    ap (λ (x : List ℕ). take k o ++ (x ++ post_of k m o)) e
+    ∙ ap (λ (x : List ℕ). take k o ++ (l ++ x)) (drop-drop m k o ∙ ap (λ (x : ℕ). drop (k + x) o) (g ∙ sym f))
+    ∙ sym (append_assoc (take k o) l (drop (k + length l) o))
+    ∙ sym (sets-eq l o k (omega (arith, f)))
 
 -- the four sides of the frame
-pub frame_put : (o a b c d : List ℕ) (w h : ℕ) → a ≡ put_four o 0 1 (h - 1) (w - 1) h → b ≡ put_four a 1 0 0 1 h → c ≡ put_four b 2 1 0 (w - 1) 1
-    → d ≡ put_four c 3 (w - 1) 0 w h → d ≡ sets o 0 (flat (frame w h))
-unfolding flat frame put_four
+pub frame_put : (o a b c d : List ℕ) (w h : ℕ) → a ≡ sets o (4 * 0) (1 ∷ (h - 1) ∷ (w - 1) ∷ h ∷ []) → b ≡ sets a (4 * 1) (0 ∷ 0 ∷ 1 ∷ h ∷ [])
+    → c ≡ sets b (4 * 2) (1 ∷ 0 ∷ (w - 1) ∷ 1 ∷ []) → d ≡ sets c (4 * 3) ((w - 1) ∷ 0 ∷ w ∷ h ∷ []) → d ≡ sets o 0 (flat (frame w h))
+unfolding flat frame
 frame_put o a b c d w h ea eb ec ed = rw (ed, ec, eb, ea)
 
 -- a room's rectangle from its walls
@@ -37,11 +36,6 @@ pub room_walled : (xs ys : List ℕ) (v : ℕ) (s : Sides) → s ≡ sides_at xs
     → rect_in (record { vertex = v; x1 = s.left.0; y1 = s.lower.0; x2 = s.right.0; y2 = s.upper.0 }) ≡ walled_by xs ys v
 unfolding rect_in walled_by room_rect
 room_walled xs ys v s e = rw e
-
--- no plan
-pub none_held : (l : List ℕ) → l ≡ replicate 256 0 → record { rooms = 0; width = 0; height = 0; rects = l } ≡ no_plan
-unfolding no_plan
-none_held l e = rw e
 
 -- the rooms, one by one: what is left to put, put, gives the whole
 module _ (xs ys : List ℕ) where
@@ -51,8 +45,8 @@ module _ (xs ys : List ℕ) where
 
   -- a held rectangle that is v's by its walls, put at v's place, is v's four numbers put there
   four_of : (o : List ℕ) (r : HeldRect) (v : ℕ) → rect_in r ≡ walled_by xs ys v
-      → put_four o v r.x1 r.y1 r.x2 r.y2 ≡ sets o (4 * v) (flat (walled_by xs ys v ∷ []))
-  unfolding flat rect_in put_four
+      → sets o (4 * v) (r.x1 ∷ r.y1 ∷ r.x2 ∷ r.y2 ∷ []) ≡ sets o (4 * v) (flat (walled_by xs ys v ∷ []))
+  unfolding flat rect_in
   four_of o r v e = ap (λ (s : Rect). sets o (4 * v) (s.x1 ∷ s.y1 ∷ s.x2 ∷ s.y2 ∷ [])) e
 
   -- at the start all the rooms are left to put, from place 16 on
@@ -61,7 +55,7 @@ module _ (xs ys : List ℕ) where
 
   -- the next room put, those behind it are left
   pub rooms_more : (o x y : List ℕ) (r : HeldRect) (n i : ℕ) → rect_in r ≡ walled_by xs ys (4 + i)
-      → x ≡ put_four o (4 + i) r.x1 r.y1 r.x2 r.y2 → i < n
+      → x ≡ sets o (4 * (4 + i)) (r.x1 ∷ r.y1 ∷ r.x2 ∷ r.y2 ∷ []) → i < n
       → sets o (4 * (4 + i)) (rooms_from (4 + i) (n - i)) ≡ y → sets x (4 * (4 + (i + 1))) (rooms_from (4 + (i + 1)) (n - (i + 1))) ≡ y
   unfolding flat up_from
   rooms_more o x y r n i e ex h inv =

@@ -1,39 +1,22 @@
 -- One rectangle and two, as the code comes by them. Assumes nothing.
-use Prim.Native.Nat.{ℕ, zero, suc, ◌+◌, ◌-◌, ◌*◌, ◌%◌, ◌<◌, ◌≤◌, max, min}
+use Prim.Native.Nat.{ℕ, zero, suc, ◌-◌, ◌*◌, ◌<◌, max, min}
 use mathlib.Core.Path.{◌≡◌, refl, sym, ap, ◌∙◌}
 use mathlib.Core.Bool.{Bool, true, false, not, ◌&&◌, ◌||◌, cond}
 use native.Mathlib.Nat.{mul-le-mul, lt_of_le_of_lt}
 use native.Mathlib.Omega.{arith}
-use borrow.Author.Tests.{lt-ltb, le-ltb, le-leb, lt-leb, eq-eqb, ne_eqb, eqb-true}
-use lib.Dec.{leb, ltb, eqb, lit<}
-use mir.Syntax.{w64}
-use mir.Val.{Fits}
+use borrow.Author.Tests.{le-leb, eq-eqb, ne_eqb, eqb-true}
+use lib.Dec.{leb, eqb, lit<}
 use Rattle.floor.proofs.Lists.Laws.{no_false}
-use Rattle.floor.specs.Jobs.{Job, star_of, names}
-use Rattle.floor.specs.Plans.{Rect, overlap, abut, apart, Touch, wall, is_wall, on_line, facing, touch_on, touch_of, corner, area, next_side, joined, shares_joined, follows}
+use Rattle.floor.specs.Jobs.{Job}
+use Rattle.floor.specs.Plans.{Rect, overlap, abut, apart, Touch, wall, is_wall, on_line, facing, touch_on, touch_of, corner, joined, shares_joined}
 use Rattle.drawing.specs.declared.Rect.{Rect as HeldRect}
 use Rattle.drawing.specs.declared.Touch.{Touch as Touching}
 use Rattle.drawing.specs.declared.Touch.TheVariants.{Clear, Wall}
 use Rattle.drawing.specs.Rects.{rect_in, touch_in}
-use Rattle.drawing.specs.Tests.{inside_sheet, away, pair_ok}
+use Rattle.drawing.specs.Tests.{away, pair_ok}
 
 -- two stretches
 module _ (a b c d : ℕ) where
-  -- the smaller end less the larger start is how far they reach over one another
-  pub reach : (x y n : ℕ) → x ≡ max a c → y ≡ min b d → n ≡ y - x → n ≡ overlap a b c d
-  unfolding overlap
-  reach x y n ex ey e = rw (← ex, ← ey) e
-
-  -- they touch where the first ends at the start of the second
-  pub abut_first : b ≡ c → true ≡ abut a b c d
-  unfolding abut
-  abut_first e = rw (eq-eqb b c e)
-
-  -- else they touch exactly if the second ends at the start of the first
-  pub abut_second : (b ≡ c → ⊥) → eqb d a ≡ abut a b c d
-  unfolding abut
-  abut_second e = rw (ne_eqb b c e)
-
   -- stretches that touch end to end reach over one another by nothing
   abut_reach : abut a b c d ≡ true → overlap a b c d ≡ 0
   unfolding overlap abut
@@ -44,35 +27,9 @@ module _ (a b c d : ℕ) where
       go false e true f t = let g : d ≡ a = eqb-true d a f in omega arith
       go false e false f t = let z : ◌≡◌ {A = ℕ} 0 1 = cc in absurd (omega arith)
 
-  -- two that reach over one another by at least 1 are not away from one another
-  pub away_over : (n : ℕ) → n ≡ overlap a b c d → 1 ≤ n → false ≡ away a b c d
-  unfolding away
-  away_over n e h = rw (← e, ne_eqb n 0 (λ z. omega arith))
-
-  -- two that reach over one another by nothing are away exactly if they do not touch
-  pub away_free : (n : ℕ) (t : Bool) → n ≡ overlap a b c d → n < 1 → t ≡ abut a b c d → not t ≡ away a b c d
-  unfolding away
-  away_free n t e h f =
-      let z : n ≡ 0 = omega arith in
-      rw (← e, ← f, eq-eqb n 0 z)
-
--- a product of two numbers of two bytes
-module _ (m n : ℕ) (h : m < 65536) (k : n < 65536) where
-  -- it is a number of four bytes
-  pub product : m * n < 4294967296
-  product = lt_of_le_of_lt (mul-le-mul {n₂ = 65535} {m₂ = 65535} (omega arith) (omega arith)) (lit< tt)
-
-  -- it fits a word
-  pub product_fits : Fits w64 (m * n)
-  product_fits = omega (arith, product)
-
--- sides on one line share a wall exactly if they share a length of at least 1
-pub walled_line : (a b n : ℕ) → a ≡ b → leb 1 n ≡ (eqb a b && leb 1 n)
-walled_line a b n e = rw (eq-eqb a b e)
-
--- sides on two lines share none
-pub walled_off : (a b n : ℕ) → (a ≡ b → ⊥) → false ≡ (eqb a b && leb 1 n)
-walled_off a b n e = rw (ne_eqb a b e)
+-- a product of two numbers of two bytes is a number of four bytes
+pub product : (m n : ℕ) → m < 65536 → n < 65536 → m * n < 4294967296
+product m n h k = lt_of_le_of_lt (mul-le-mul {n₂ = 65535} {m₂ = 65535} (omega arith) (omega arith)) (lit< tt)
 
 -- two rectangles
 module _ (r s : HeldRect) where
@@ -91,140 +48,6 @@ module _ (r s : HeldRect) where
   -- whether they touch end to end upward
   abbrev above : Bool
   above = abut r.y1 r.y2 s.y1 s.y2
-
-  -- two that reach over one another across by nothing share no cell
-  pub apart_across : (n : ℕ) → n ≡ across → n ≡ 0 → true ≡ apart (rect_in r) (rect_in s)
-  unfolding apart rect_in
-  apart_across n e z = rw (← e, eq-eqb n 0 z)
-
-  -- else they share no cell exactly if they reach over one another upward by nothing
-  pub apart_upward : (n m : ℕ) → n ≡ across → (n ≡ 0 → ⊥) → m ≡ upward → eqb m 0 ≡ apart (rect_in r) (rect_in s)
-  unfolding apart rect_in
-  apart_upward n m e z f = rw (← e, ← f, ne_eqb n 0 z)
-
-  -- how they touch, a side after the other
-  module _ (n m : ℕ) (en : n ≡ across) (em : m ≡ upward) (p : Bool) (ep : p ≡ (eqb r.y2 s.y1 && leb 1 n)) where
-    -- above
-    pub touch_above : p ≡ true → touch_in (Wall 0 n) ≡ touch_of (rect_in r) (rect_in s)
-    unfolding touch_in touch_of touch_on on_line facing rect_in
-    touch_above t = rw (← en, ← ep, t)
-
-    module _ (fp : p ≡ false) (q : Bool) (eq : q ≡ (eqb s.x2 r.x1 && leb 1 m)) where
-      -- to the left
-      pub touch_left : q ≡ true → touch_in (Wall 1 m) ≡ touch_of (rect_in r) (rect_in s)
-      unfolding touch_in touch_of touch_on on_line facing rect_in
-      touch_left t = rw (← en, ← em, ← ep, fp, ← eq, t)
-
-      module _ (fq : q ≡ false) (o : Bool) (eo : o ≡ (eqb s.y2 r.y1 && leb 1 n)) where
-        -- below
-        pub touch_below : o ≡ true → touch_in (Wall 2 n) ≡ touch_of (rect_in r) (rect_in s)
-        unfolding touch_in touch_of touch_on on_line facing rect_in
-        touch_below t = rw (← en, ← em, ← ep, fp, ← eq, fq, ← eo, t)
-
-        module _ (fo : o ≡ false) (w : Bool) (ew : w ≡ (eqb r.x2 s.x1 && leb 1 m)) where
-          -- to the right
-          pub touch_right : w ≡ true → touch_in (Wall 3 m) ≡ touch_of (rect_in r) (rect_in s)
-          unfolding touch_in touch_of touch_on on_line facing rect_in
-          touch_right t = rw (← en, ← em, ← ep, fp, ← eq, fq, ← eo, fo, ← ew, t)
-
-          -- on no side
-          pub touch_clear : w ≡ false → touch_in Clear ≡ touch_of (rect_in r) (rect_in s)
-          unfolding touch_in touch_of touch_on on_line facing rect_in
-          touch_clear t = rw (← en, ← em, ← ep, fp, ← eq, fq, ← eo, fo, ← ew, t)
-
-  -- two that touch across meet only at a corner exactly if they touch upward too
-  pub corner_beside : (b t : Bool) → b ≡ beside → b ≡ true → t ≡ above → t ≡ corner (rect_in r) (rect_in s)
-  unfolding corner rect_in
-  corner_beside b t e y f = rw (← e, ← f, y)
-
-  -- two that do not touch across do not meet only at a corner
-  pub corner_no : (b : Bool) → b ≡ beside → b ≡ false → false ≡ corner (rect_in r) (rect_in s)
-  unfolding corner rect_in
-  corner_no b e z = rw (← e, z)
-
-  -- which comes next, by the kind
-  pub follows_0 : (k : ℕ) → k ≡ 0 → ltb s.x1 r.x1 ≡ follows k (rect_in r) (rect_in s)
-  unfolding follows rect_in
-  follows_0 k e = rw e
-
-  -- of kind 1: the second comes next exactly if its y1 is the smaller
-  pub follows_1 : (k : ℕ) → k ≡ 1 → ltb s.y1 r.y1 ≡ follows k (rect_in r) (rect_in s)
-  unfolding follows rect_in
-  follows_1 k e = rw e
-
-  -- of kind 2: the second comes next exactly if its x1 is the larger
-  pub follows_2 : (k : ℕ) → k ≡ 2 → ltb r.x1 s.x1 ≡ follows k (rect_in r) (rect_in s)
-  unfolding follows rect_in
-  follows_2 k e = rw e
-
-  -- of kind 3 or any other: the second comes next exactly if its y1 is the larger
-  pub follows_other : (k : ℕ) → (k ≡ 0 → ⊥) → (k ≡ 1 → ⊥) → (k ≡ 2 → ⊥) → ltb r.y1 s.y1 ≡ follows k (rect_in r) (rect_in s)
-  unfolding follows rect_in
-  follows_other zero a b c = absurd (a refl)
-  follows_other (suc zero) a b c = absurd (b refl)
-  follows_other (suc (suc zero)) a b c = absurd (c refl)
-  follows_other (suc (suc (suc k))) a b c = refl
-
--- one rectangle
-module _ (r : HeldRect) where
-  -- its width times its height is its area
-  pub area_of : (x y m n : ℕ) → m ≡ x → x ≡ r.x2 - r.x1 → n ≡ y → y ≡ r.y2 - r.y1 → m * n ≡ area (rect_in r)
-  unfolding area rect_in
-  area_of x y m n em ex en ey = rw (em, ex, en, ey)
-
-  module _ (w h : ℕ) where
-    -- one without width is not inside a sheet
-    pub inside_thin : r.x2 ≤ r.x1 → false ≡ inside_sheet w h (rect_in r)
-    unfolding inside_sheet rect_in
-    inside_thin a = rw (le-ltb r.x1 r.x2 a)
-
-    -- one without height is not inside
-    pub inside_low : r.x1 < r.x2 → r.y2 ≤ r.y1 → false ≡ inside_sheet w h (rect_in r)
-    unfolding inside_sheet rect_in
-    inside_low a b = rw (lt-ltb r.x1 r.x2 a, le-ltb r.y1 r.y2 b)
-
-    -- one that ends east of the sheet is not inside
-    pub inside_wide : r.x1 < r.x2 → r.y1 < r.y2 → w < r.x2 → false ≡ inside_sheet w h (rect_in r)
-    unfolding inside_sheet rect_in
-    inside_wide a b c = rw (lt-ltb r.x1 r.x2 a, lt-ltb r.y1 r.y2 b, lt-leb r.x2 w c)
-
-    -- any other is inside exactly if it does not end north of the sheet
-    pub inside_high : r.x1 < r.x2 → r.y1 < r.y2 → r.x2 ≤ w → leb r.y2 h ≡ inside_sheet w h (rect_in r)
-    unfolding inside_sheet rect_in
-    inside_high a b c = rw (lt-ltb r.x1 r.x2 a, lt-ltb r.y1 r.y2 b, le-leb r.x2 w c)
-
--- two vertices
-module _ (u v : ℕ) where
-  -- after a room no side of the frame comes next
-  pub side_none : 4 ≤ u → false ≡ next_side u v
-  unfolding next_side
-  side_none h = rw (le-ltb u 4 h)
-
-  -- after a side of the frame v comes next exactly if it is one more, and 0 after 3
-  pub side_next : u < 4 → eqb v ((u + 1) % 4) ≡ next_side u v
-  unfolding next_side
-  side_next h = rw (lt-ltb u 4 h)
-
-  module _ (j : Job) (a : Bool) (ea : a ≡ names (star_of j u) v) where
-    -- they are joined where the star of u names v
-    pub joined_names : a ≡ true → true ≡ joined j u v
-    unfolding joined
-    joined_names t = rw (← ea, t)
-
-    -- they are joined where the star of v names u
-    pub joined_named : (b : Bool) → a ≡ false → b ≡ names (star_of j v) u → b ≡ true → true ≡ joined j u v
-    unfolding joined
-    joined_named b z eb t = rw (← ea, z, ← eb, t)
-
-    -- they are joined where v is the next side of the frame after u
-    pub joined_next : (b c : Bool) → a ≡ false → b ≡ names (star_of j v) u → b ≡ false → c ≡ next_side u v → c ≡ true → true ≡ joined j u v
-    unfolding joined
-    joined_next b c z eb y ec t = rw (← ea, z, ← eb, y, ← ec, t)
-
-    -- else they are joined exactly if u is the next side of the frame after v
-    pub joined_last : (b c d : Bool) → a ≡ false → b ≡ names (star_of j v) u → b ≡ false → c ≡ next_side u v → c ≡ false → d ≡ next_side v u → d ≡ joined j u v
-    unfolding joined
-    joined_last b c d z eb y ec x ed = rw (← ea, z, ← eb, y, ← ec, x) ed
 
 -- a test and one that fails do not both pass
 and_false : (a : Bool) → false ≡ (a && false)

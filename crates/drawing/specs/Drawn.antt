@@ -1,17 +1,16 @@
 -- What numbering and drawing any stars answers. Assumes nothing.
-use Rattle.std.specs.Prelude.{ℕ, ◌-◌, ◌≡◌, List, [], ◌∷◌, ◌++◌, map, get_or}
+use Rattle.std.specs.Prelude.{ℕ, ◌-◌, ◌≡◌, List, [], ◌∷◌, ◌++◌, map, get_or, Result, Ok, Err}
 use Rattle.std.proofs.Math.Option.{Option, none, some}
 use Rattle.floor.specs.Lists.{up_from}
 use Rattle.floor.specs.Jobs.{SizedJob}
 use Rattle.floor.specs.Walls.{upright, level, at}
 use Rattle.floor.specs.Plans.{Rect, Plan, room_rect, plan_of, Answer, refused, held, past, test18, planned}
+use Rattle.refusals.specs.declared.Refusal.{Refusal}
+use Rattle.refusals.specs.Numbers.{number_of}
 use Rattle.walls.specs.declared.Walls.{Walls}
 use Rattle.walls.specs.declared.Sheet.{Sheet}
 use Rattle.walls.specs.Numbers.{numbers_in}
-use Rattle.drawing.specs.declared.Answer.{Answer as Said}
-use Rattle.drawing.specs.declared.Answer.TheVariants.{Drawn, Refused}
 use Rattle.drawing.specs.declared.Plan.{Plan as HeldPlan}
-use Rattle.drawing.specs.declared.Drawing.{Drawing}
 use Rattle.drawing.specs.Rects.{plan_in, no_plan, held_plan}
 
 -- TEST 18 ALONE of a plan by wall numbers
@@ -58,17 +57,17 @@ plan_by xs ys s n = record { width = s.width; height = s.height; rects = frame s
 abbrev pub plan_on : Walls → Sheet → ℕ → Plan
 plan_on w s n = plan_by w.uprights.0 w.levels.0 s n
 
--- what an answer says, beside the job and the plan: these, held, or the number of the test that fails
-unfoldable pub said : Said → SizedJob → Plan → Answer
-said Drawn o p = held o p
-said (Refused k) o p = refused k
+-- what a drawing says, beside the job: its plan, held, or the number of the test that fails
+unfoldable pub said : Result HeldPlan Refusal → SizedJob → Answer
+said (Ok p) o = held o (plan_in p)
+said (Err k) o = refused (number_of k)
 
--- the plan that is kept of it: none where it is refused
+-- the plan that is kept of an answer: none where it is refused
 unfoldable pub kept : Answer → HeldPlan
 kept (refused k) = no_plan
 kept (held o p) = held_plan p
 
--- a drawing tells what drawing the job came to, and keeps the plan of it
-pub record Draws (r : Drawing) (o : SizedJob) (x : Answer) : Type 0 where
-  pub says : said r.answer o (plan_in r.plan) ≡ x
-  pub keeps : r.plan ≡ kept x
+-- a drawing tells what drawing the job came to, and gives the very plan that is kept of it
+pub record Draws (r : Result HeldPlan Refusal) (o : SizedJob) (x : Answer) : Type 0 where
+  pub says : said r o ≡ x
+  pub keeps : (p : HeldPlan) → r ≡ Ok p → p ≡ kept x

@@ -4,6 +4,7 @@ use Rattle.std.proofs.lemmas.List.Edits.{sets}
 use Rattle.floor.specs.Plans.{Rect, Plan, Touch, clear, wall}
 use Rattle.drawing.specs.declared.Rect.{Rect as HeldRect}
 use Rattle.drawing.specs.declared.Plan.{Plan as HeldPlan}
+use Rattle.drawing.specs.declared.Layout.{Layout}
 use Rattle.drawing.specs.declared.Touch.{Touch as Touching}
 use Rattle.drawing.specs.declared.Touch.TheVariants.{Clear, Wall}
 
@@ -33,14 +34,18 @@ plan_from w h many l = record { width = w; height = h; rects = rects_in many 0 l
 unfoldable pub plan_in : HeldPlan → Plan
 plan_in p = plan_from p.width p.height (p.rooms + 4) p.rects
 
+-- the rectangles of a plan as it is lent
+abbrev pub rects_lent : Layout → List Rect
+rects_lent l = rects_in (l.rooms + 4) 0 l.rects.now
+
+-- a plan as it is lent
+abbrev pub plan_lent : Layout → Plan
+plan_lent l = plan_from l.width l.height (l.rooms + 4) l.rects.now
+
 -- the numbers of some rectangles
 unfoldable pub flat : List Rect → List ℕ
 flat [] = []
 flat (r ∷ rs) = r.x1 ∷ r.y1 ∷ r.x2 ∷ r.y2 ∷ flat rs
-
--- the four numbers of vertex v's rectangle, put at its place
-unfoldable pub put_four : List ℕ → ℕ → ℕ → ℕ → ℕ → ℕ → List ℕ
-put_four l v a b c d = sets l (4 * v) (a ∷ b ∷ c ∷ d ∷ [])
 
 -- one byte of each number counts
 unfoldable pub in_bytes : List ℕ → List ℕ

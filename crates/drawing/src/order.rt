@@ -1,90 +1,58 @@
 // Whether the neighbours of one kind stand in order, once round each star.
-ghost use Rattle.std.specs.Prelude.{◌≡◌, ◌-◌, ◌<◌};
+ghost use Rattle.std.specs.Prelude.{◌≡◌, ◌-◌};
 ghost use Rattle.floor.specs.Lists.{all};
-ghost use Rattle.stars.specs.Held.{cells, held_star, job_in};
-ghost use Rattle.drawing.specs.Rects.{rects_in};
+ghost use Rattle.stars.specs.Held.{cells, held_star, job_held};
+ghost use Rattle.drawing.specs.Rects.{rects_lent};
 ghost use Rattle.drawing.specs.Tests.{two_at, ordered, star_ordered};
 
+use crate::Layout;
+use stars::held::Held;
+
 // Whether the entries at two places, where they are of one kind, stand in order.
-fn two_ordered<'a>(
-    rects: &'a [u16],
-    many: usize,
-    nbr: &'a [u16],
-    kind: &'a [u8],
-    a: usize,
-    b: usize,
-) -> bool
-    requires { many < 65536 }
-    ensures { result ≡ ordered (rects_in many 0 rects.now) (two_at nbr.now kind.now a b) }
+#[tactic(auto, using(crate::proofs::Asking::order_free, crate::proofs::Asking::order_asked))]
+fn two_ordered(layout: &Layout, stars: &Held, a: usize, b: usize) -> bool
+    ensures { result ≡ ordered (rects_lent layout.now) (two_at stars.now.nbr.now stars.now.kind.now a b) }
 {
-    let k = stars::held::kind_at(kind, a);
-    if k != stars::held::kind_at(kind, b) {
+    let k = stars.kind_at(a);
+    if k != stars.kind_at(b) {
         return true;
     }
-    let r = crate::held::rect_of(rects, many, stars::held::to_at(nbr, a));
-    let s = crate::held::rect_of(rects, many, stars::held::to_at(nbr, b));
-    crate::rects::follows(k, r, s)
+    let r = layout.rectangle(stars.to_at(a));
+    let s = layout.rectangle(stars.to_at(b));
+    r.follows(k, s)
 }
 
 // Whether each entry from a place to an end stands in order with the one that follows it, behind the last the first.
-fn part_ordered<'a>(
-    rects: &'a [u16],
-    many: usize,
-    nbr: &'a [u16],
-    kind: &'a [u8],
-    from: usize,
-    end: usize,
-) -> bool
-    requires { many < 65536 }
-    ensures { result ≡ star_ordered (rects_in many 0 rects.now) (cells (end - from) from nbr.now kind.now) }
+#[tactic(auto, using(crate::proofs::Asking::round_first, crate::proofs::Asking::round_false, crate::proofs::Asking::round_next, crate::proofs::Asking::round_all))]
+fn part_ordered(layout: &Layout, stars: &Held, from: usize, end: usize) -> bool
+    ensures { result ≡ star_ordered (rects_lent layout.now) (cells (end - from) from stars.now.nbr.now stars.now.kind.now) }
 {
-    let mut a = from;
-    while a < end {
+    for a in from..end {
         let b = stars::held::place_after(from, end, a);
-        if !two_ordered(rects, many, nbr, kind, a, b) {
+        if !two_ordered(layout, stars, a, b) {
             return false;
         }
-        a += 1;
     }
     true
 }
 
 // Whether each entry of a star does.
-fn star_ordered<'a>(
-    rects: &'a [u16],
-    many: usize,
-    ends: &'a [u16],
-    nbr: &'a [u16],
-    kind: &'a [u8],
-    i: usize,
-) -> bool
-    requires { many < 65536 }
-    ensures { result ≡ star_ordered (rects_in many 0 rects.now) (held_star ends.now nbr.now kind.now i) }
+#[tactic(auto, using(crate::proofs::Asking::star_whole))]
+fn star_ordered(layout: &Layout, stars: &Held, i: usize) -> bool
+    ensures { result ≡ star_ordered (rects_lent layout.now) (held_star stars.now.ends.now stars.now.nbr.now stars.now.kind.now i) }
 {
-    let from = stars::held::start_of(ends, nbr.len(), i);
-    let end = stars::held::end_of(ends, nbr.len(), i);
-    part_ordered(rects, many, nbr, kind, from, end)
+    part_ordered(layout, stars, stars.start_of(i), stars.end_of(i))
 }
 
 // Whether each entry of every star does.
-pub fn all_ordered<'a>(
-    rects: &'a [u16],
-    many: usize,
-    ends: &'a [u16],
-    nbr: &'a [u16],
-    kind: &'a [u8],
-    count: usize,
-) -> bool
-    requires { many < 65536 }
-    ensures { result ≡ all (star_ordered (rects_in many 0 rects.now))
-        (job_in count ends.now nbr.now kind.now) }
+#[tactic(auto, using(crate::proofs::Asking::stars_false, crate::proofs::Asking::stars_next, crate::proofs::Asking::stars_all))]
+pub fn all_ordered(layout: &Layout, stars: &Held) -> bool
+    ensures { result ≡ all (star_ordered (rects_lent layout.now)) (job_held stars.now) }
 {
-    let mut i: usize = 0;
-    while i < count {
-        if !star_ordered(rects, many, ends, nbr, kind, i) {
+    for i in 0..stars.count {
+        if !star_ordered(layout, stars, i) {
             return false;
         }
-        i += 1;
     }
     true
 }

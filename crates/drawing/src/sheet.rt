@@ -1,45 +1,39 @@
 // Every rectangle inside the sheet, and the areas added up.
-ghost use Rattle.std.specs.Prelude.{◌≡◌, map, ◌*◌, ◌<◌, eqb};
+// Loops over vertices and places are `for` loops in this crate: of the chains `all` and `map` with `sum`, tried below, the proof did not close against the definitions' own words.
+ghost use Rattle.std.specs.Prelude.{◌≡◌, map, ◌*◌, eqb};
 ghost use Rattle.floor.specs.Lists.{all, sum};
 ghost use Rattle.floor.specs.Plans.{area};
-ghost use Rattle.drawing.specs.Rects.{rects_in};
+ghost use Rattle.drawing.specs.Rects.{rects_lent};
 ghost use Rattle.drawing.specs.Tests.{inside_sheet};
 
-// Whether each of so many rectangles has at least a cell and lies inside the sheet.
-pub fn all_inside(rects: &[u16], many: usize, width: u16, height: u16) -> bool
-    requires { many < 65536 }
-    ensures { result ≡ all (inside_sheet width height) (rects_in many 0 rects.now) }
+use crate::Layout;
+
+// Whether each rectangle has at least a cell and lies inside the sheet.
+pub fn all_inside(layout: &Layout) -> bool
+    ensures { result ≡ all (inside_sheet layout.now.width layout.now.height) (rects_lent layout.now) }
 {
-    let mut v: usize = 0;
-    while v < many {
-        let r = crate::held::rect_at(rects, v);
-        if !crate::rects::inside(width, height, r) {
+    for v in 0..layout.many() {
+        if !layout.rect_at(v).inside(layout.width, layout.height) {
             return false;
         }
-        v += 1;
     }
     true
 }
 
-// The areas of so many rectangles, added up.
-fn areas(rects: &[u16], many: usize) -> usize
-    requires { many < 65536 }
-    ensures { result ≡ sum (map area (rects_in many 0 rects.now)) }
+// The areas, added up.
+fn areas(layout: &Layout) -> usize
+    ensures { result ≡ sum (map area (rects_lent layout.now)) }
 {
-    let mut total: usize = 0;
-    let mut v: usize = 0;
-    while v < many {
-        let r = crate::held::rect_at(rects, v);
-        total += crate::rects::area(r);
-        v += 1;
+    let mut total = 0;
+    for v in 0..layout.many() {
+        total += layout.rect_at(v).area();
     }
     total
 }
 
 // Whether they add up to width times height.
-pub fn areas_fill(rects: &[u16], many: usize, width: u16, height: u16) -> bool
-    requires { many < 65536 }
-    ensures { result ≡ eqb (sum (map area (rects_in many 0 rects.now))) (width * height) }
+pub fn areas_fill(layout: &Layout) -> bool
+    ensures { result ≡ eqb (sum (map area (rects_lent layout.now))) (layout.now.width * layout.now.height) }
 {
-    areas(rects, many) == fields::number(width) * fields::number(height)
+    areas(layout) == usize::from(layout.width) * usize::from(layout.height)
 }

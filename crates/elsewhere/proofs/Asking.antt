@@ -1,25 +1,26 @@
 -- Once round each star, room by room, as the code comes by it. Assumes nothing.
 use Prim.Native.Nat.{ℕ, suc, ◌+◌, ◌-◌, ◌≤◌, ◌<◌}
 use mathlib.Core.Path.{◌≡◌, refl}
-use mathlib.Core.Bool.{Bool, true, false, not}
+use mathlib.Core.Bool.{Bool, true, false, not, ◌&&◌}
 use mathlib.Core.List.{List}
 use native.Mathlib.Omega.{arith}
+use native.Mathlib.Nat.{sub-zero}
 use borrow.Author.Tests.{eq-eqb, ne_eqb, not-true, not-false}
-use lib.Dec.{eqb}
 use lib.ListN.{length, get_or}
 use Rattle.floor.specs.Lists.{all, keep, up_from}
 use Rattle.floor.specs.Lists.Laws.{bit}
 use Rattle.floor.proofs.Lists.Laws.{count_nil, count_cons}
-use Rattle.floor.specs.Jobs.{Star, SizedJob, links, changes, rooms, star_of, lists, size_of}
-use Rattle.floor.specs.Plans.{Plan, rect_of, inside}
-use Rattle.floor.specs.Foreign.{stands_on, abut_on, corner_on, between, large, star_stands, step_on, star_round, in_corner, one_in_corner, room_good, framed, good_for}
+use Rattle.floor.specs.Jobs.{sized_job, links, changes, rooms, star_of, lists, size_of}
+use Rattle.floor.specs.Plans.{Plan, rect_of}
+use Rattle.floor.specs.Foreign.{stands_on, abut_on, corner_on, between, large, star_stands, step_on, star_round, in_corner, room_good}
 use Rattle.stars.specs.Held.{to_at, entry_at, cells, place_after, link_at, links_from, start_of, end_of, held_star, stars_in, job_in}
+use Rattle.stars.specs.Sized.{sizes_in}
 use Rattle.stars.proofs.Holding.{cells_more, cells_done, held_more, held_done, length_stars, room_star}
 use Rattle.stars.proofs.Round.{links_round, links_false, links_next, links_all}
 use Rattle.drawing.specs.declared.Rect.{Rect as HeldRect}
 use Rattle.drawing.specs.Rects.{rect_in}
 use Rattle.drawing.specs.Tests.{two_at}
-use Rattle.elsewhere.specs.Placed.{rects_at, plan_at, stands_at}
+use Rattle.elsewhere.specs.Placed.{stands_at}
 
 -- the neighbour at a place, at its labelled side
 pub entry_is : (p : Plan) (nbr kind : List ℕ) (u k v x : ℕ) (r s : HeldRect) (b : Bool) → rect_in r ≡ rect_of p u → v ≡ to_at nbr k → rect_in s ≡ rect_of p v
@@ -92,28 +93,13 @@ star_there ends nbr kind n i x y h ex ey =
     room_star ends nbr kind n (4 + i) 0 0 x y (omega arith) (omega arith) (rw e ex) (rw e ey)
 
 -- what is asked of a room, in turn
-module _ (o : SizedJob) (p : Plan) (u : ℕ) (a : Bool) (ea : a ≡ between p (rect_of p u)) where
-  -- it does not lie between the sides of the frame,
-  pub room_over : not a ≡ true → false ≡ room_good o p u
-  unfolding room_good
-  room_over t = rw (← ea, not-true a t)
-
-  module _ (b : Bool) (ta : not a ≡ false) (eb : b ≡ large (size_of o.sizes u) (rect_of p u)) where
-    -- it is too small,
-    pub room_small : not b ≡ true → false ≡ room_good o p u
-    unfolding room_good
-    room_small t = rw (← ea, not-false a ta, ← eb, not-true b t)
-
-    module _ (c : Bool) (tb : not b ≡ false) (s : Star) (es : star_of o.stars u ≡ s) (ec : c ≡ all (stands_at p u) s) where
-      -- a neighbour stands on another side,
-      pub room_side : not c ≡ true → false ≡ room_good o p u
-      unfolding room_good star_stands stands_at
-      room_side t = rw (← ea, not-false a ta, ← eb, not-false b tb, es, ← ec, not-true c t)
-
-      -- or else it comes to once round
-      pub room_round : (d : Bool) → not c ≡ false → d ≡ all (step_on p u) (links s) → d ≡ room_good o p u
-      unfolding room_good star_stands stands_at star_round
-      room_round d tc ed = rw (← ea, not-false a ta, ← eb, not-false b tb, es, ← ec, not-false c tc) ed
+pub room_is : (ends nbr kind l : List ℕ) (n t i : ℕ) (p : Plan) → i < n
+    → room_good (sized_job (job_in n ends nbr kind) (sizes_in t l)) p (4 + i)
+    ≡ (between p (rect_of p (4 + i)) && large (size_of (sizes_in t l) (4 + i)) (rect_of p (4 + i))
+    && all (stands_at p (4 + i)) (cells (end_of ends (length nbr) i - start_of ends (length nbr) i) (start_of ends (length nbr) i) nbr kind)
+    && all (step_on p (4 + i)) (links (cells (end_of ends (length nbr) i - start_of ends (length nbr) i) (start_of ends (length nbr) i) nbr kind)))
+unfolding room_good star_stands stands_at star_round
+room_is ends nbr kind l n t i p h = rw (star_there ends nbr kind n i _ _ h refl refl)
 
 -- the rooms, one by one
 module _ (q : ℕ → Bool) (m i : ℕ) (w : Bool) (inv : all q (up_from (4 + i) (m - i)) ≡ w) where
@@ -141,11 +127,9 @@ module _ (q : ℕ → Bool) (m i : ℕ) (w : Bool) (inv : all q (up_from (4 + i)
       rw d at inv
 
 -- before the first all are left
-pub rooms_first : (q : ℕ → Bool) (ends nbr kind : List ℕ) (n m : ℕ) → m ≡ n → all q (up_from (4 + 0) (m - 0)) ≡ all q (rooms (job_in n ends nbr kind))
+pub rooms_first : (q : ℕ → Bool) (ends nbr kind : List ℕ) (n : ℕ) → all q (up_from (4 + 0) (n - 0)) ≡ all q (rooms (job_in n ends nbr kind))
 unfolding rooms
-rooms_first q ends nbr kind n m e =
-    let d : m - 0 ≡ n = omega arith in
-    rw (length_stars n 0 ends nbr kind, d)
+rooms_first q ends nbr kind n = rw (length_stars n 0 ends nbr kind, sub-zero)
 
 -- a room in the corner, by the two contacts that put it there
 module _ (ends nbr kind : List ℕ) (n i : ℕ) (h : i < n) where
@@ -154,63 +138,28 @@ module _ (ends nbr kind : List ℕ) (n i : ℕ) (h : i < n) where
   unfolding held_star
   star_held = star_there ends nbr kind n i _ _ h refl refl
 
-  module _ (a : Bool) (ea : a ≡ lists (star_of (job_in n ends nbr kind) (4 + i)) 1 1) where
-    -- W is not at its left,
-    pub corner_west : not a ≡ true → 0 ≡ bit (in_corner (held_star ends nbr kind i))
-    unfolding in_corner
-    corner_west t = rw (← star_held, ← ea, not-true a t)
+  -- W is not at its left,
+  pub corner_west : lists (star_of (job_in n ends nbr kind) (4 + i)) 1 1 ≡ false → false ≡ in_corner (held_star ends nbr kind i)
+  unfolding in_corner
+  corner_west t = rw (← star_held, t)
 
-    module _ (b : Bool) (ta : not a ≡ false) (eb : b ≡ lists (star_of (job_in n ends nbr kind) (4 + i)) 2 2) where
-      -- or S is not below,
-      pub corner_south : not b ≡ true → 0 ≡ bit (in_corner (held_star ends nbr kind i))
-      unfolding in_corner
-      corner_south t = rw (← star_held, ← ea, not-false a ta, ← eb, not-true b t)
-
-      -- or it stands in the corner
-      pub corner_both : not b ≡ false → 1 ≡ bit (in_corner (held_star ends nbr kind i))
-      unfolding in_corner
-      corner_both t = rw (← star_held, ← ea, not-false a ta, ← eb, not-false b t)
+  -- or else it comes to S below
+  pub corner_south : lists (star_of (job_in n ends nbr kind) (4 + i)) 1 1 ≡ true
+      → lists (star_of (job_in n ends nbr kind) (4 + i)) 2 2 ≡ in_corner (held_star ends nbr kind i)
+  unfolding in_corner
+  corner_south t = rw (← star_held, t)
 
 -- the rooms in the corner, counted one by one
 module _ (ends nbr kind : List ℕ) (m i f w : ℕ) (inv : f + length (keep in_corner (stars_in (m - i) i ends nbr kind)) ≡ w) where
   -- the next, and those behind it
-  pub corner_next : (x : ℕ) → i < m → x ≡ bit (in_corner (held_star ends nbr kind i))
+  pub corner_next : (b : Bool) (x : ℕ) → i < m → b ≡ in_corner (held_star ends nbr kind i) → x ≡ bit b
       → f + x + length (keep in_corner (stars_in (m - (i + 1)) (i + 1) ends nbr kind)) ≡ w
-  corner_next x h e =
+  corner_next b x h g e =
       let c : f + (bit (in_corner (held_star ends nbr kind i)) + length (keep in_corner (stars_in (m - (i + 1)) (i + 1) ends nbr kind))) ≡ w
       = rw (held_more ends nbr kind m i h, count_cons in_corner (held_star ends nbr kind i) (stars_in (m - (i + 1)) (i + 1) ends nbr kind)) at inv in
+      let y : x ≡ bit (in_corner (held_star ends nbr kind i)) = rw g at e in
       omega arith
 
   -- behind the last, those found are all
   pub corner_done : m ≤ i → f ≡ w
   corner_done h = let c : f + 0 ≡ w = rw (held_done ends nbr kind m i h, count_nil in_corner) at inv in omega arith
-
--- before the first, none are found
-pub corner_first : (ends nbr kind : List ℕ) (n m : ℕ) → m ≡ n → 0 + length (keep in_corner (stars_in (m - 0) 0 ends nbr kind)) ≡ length (keep in_corner (job_in n ends nbr kind))
-corner_first ends nbr kind n m e =
-    let d : m - 0 ≡ n = omega arith in
-    rw d (omega arith)
-
--- the whole test, in turn
-module _ (o : SizedJob) (m : ℕ) (l : List ℕ) (a : Bool) (ea : a ≡ all (inside (plan_at m l)) (rects_at (m + 4) 0 l)) where
-  -- a rectangle lies outside the sheet,
-  pub good_outside : not a ≡ true → false ≡ good_for o (plan_at m l)
-  unfolding good_for plan_at
-  good_outside t = rw (← ea, not-true a t)
-
-  module _ (b : Bool) (ta : not a ≡ false) (eb : b ≡ framed (plan_at m l)) where
-    -- the frame lies otherwise,
-    pub good_frame : not b ≡ true → false ≡ good_for o (plan_at m l)
-    unfolding good_for plan_at
-    good_frame t = rw (← ea, not-false a ta, ← eb, not-true b t)
-
-    module _ (c : Bool) (tb : not b ≡ false) (ec : c ≡ all (room_good o (plan_at m l)) (rooms o.stars)) where
-      -- a room fails,
-      pub good_room : not c ≡ true → false ≡ good_for o (plan_at m l)
-      unfolding good_for plan_at
-      good_room t = rw (← ea, not-false a ta, ← eb, not-false b tb, ← ec, not-true c t)
-
-      -- or else it comes to the rooms in the corner
-      pub good_corner : (n : ℕ) → not c ≡ false → n ≡ length (keep in_corner o.stars) → eqb n 1 ≡ good_for o (plan_at m l)
-      unfolding good_for one_in_corner plan_at
-      good_corner n tc en = rw (← ea, not-false a ta, ← eb, not-false b tb, ← ec, not-false c tc, ← en)

@@ -1,6 +1,5 @@
 pub mod Shaping
 pub mod Placing
-pub mod Meeting
 pub mod Asking
 pub mod Judging
 pub mod Printing

@@ -4,7 +4,7 @@ use mathlib.Core.Path.{◌≡◌, refl, sym, ap, ◌∙◌}
 use mathlib.Core.Bool.{Bool, true, false, not, ◌&&◌}
 use mathlib.Core.List.{List, [], ◌∷◌}
 use native.Mathlib.Omega.{arith}
-use borrow.Author.Tests.{not-true, not-false}
+use borrow.Author.Tests.{not-true, not-false, le-leb, lt-leb}
 use lib.Dec.{leb, eqb}
 use lib.ListN.{length, get_or, get_or-eq_default}
 use Rattle.floor.specs.Lists.{all}
@@ -14,13 +14,7 @@ use Rattle.floor.specs.Foreign.{framed, between, large}
 use Rattle.drawing.specs.declared.Rect.{Rect as HeldRect}
 use Rattle.drawing.specs.Rects.{rect_in}
 use Rattle.drawing.specs.Tests.{inside_sheet}
-use Rattle.elsewhere.specs.Placed.{place_of, rect_at, rects_at, plan_at, ends_stand, levels_lie, between_sides}
-
--- the four numbers in a vertex's place
-pub numbers_at : (l : List ℕ) (v a b c d : ℕ) → a ≡ get_or l (place_of v + 4) 0 → b ≡ get_or l (place_of v + 5) 0 → c ≡ get_or l (place_of v + 6) 0
-    → d ≡ get_or l (place_of v + 7) 0 → rect_in (record { vertex = v; x1 = a; y1 = b; x2 = c; y2 = d }) ≡ rect_at l v
-unfolding rect_in rect_at
-numbers_at l v a b c d ea eb ec ed = rw (ea, eb, ec, ed)
+use Rattle.elsewhere.specs.Placed.{rect_at, rects_at, plan_at, ends_stand, levels_lie, between_sides}
 
 -- the next rectangle, and those behind it
 module _ (l : List ℕ) (n v : ℕ) where
@@ -101,31 +95,6 @@ inside_all l n m v w inv h = rw (rects_done l m v h) at inv
 pub inside_first : (l : List ℕ) (n m : ℕ) → m ≡ n → all (inside (plan_at n l)) (rects_at (m + 4 - 0) 0 l) ≡ all (inside (plan_at n l)) (rects_at (n + 4) 0 l)
 inside_first l n m e = let z : m + 4 - 0 ≡ n + 4 = omega arith in rw z
 
--- W, and then E
-module _ (x y : ℕ) (w e : HeldRect) (a : Bool) (ea : a ≡ (eqb w.x1 0 && eqb w.y1 0 && eqb w.y2 y)) where
-  -- W stands otherwise,
-  pub west_other : not a ≡ true → false ≡ ends_stand x y (rect_in w) (rect_in e)
-  unfolding ends_stand rect_in
-  west_other t = rw (← ea, not-true a t)
-
-  -- or else it comes to E
-  pub then_east : (b : Bool) → not a ≡ false → b ≡ (eqb e.x2 x && eqb e.y1 0 && eqb e.y2 y) → b ≡ ends_stand x y (rect_in w) (rect_in e)
-  unfolding ends_stand rect_in
-  then_east b ta eb = rw (← ea, not-false a ta) eb
-
--- N, and then S
-module _ (y : ℕ) (n w s e : HeldRect) (a : Bool) (ea : a ≡ (eqb n.x1 w.x2 && eqb n.x2 e.x1 && eqb n.y2 y)) where
-  -- N lies otherwise,
-  pub north_other : not a ≡ true → false ≡ levels_lie y (rect_in n) (rect_in w) (rect_in s) (rect_in e)
-  unfolding levels_lie rect_in
-  north_other t = rw (← ea, not-true a t)
-
-  -- or else it comes to S
-  pub then_south : (b : Bool) → not a ≡ false → b ≡ (eqb s.x1 w.x2 && eqb s.x2 e.x1 && eqb s.y1 0)
-      → b ≡ levels_lie y (rect_in n) (rect_in w) (rect_in s) (rect_in e)
-  unfolding levels_lie rect_in
-  then_south b ta eb = rw (← ea, not-false a ta) eb
-
 -- two tests and two are four in a row
 two_and_two : (a b c : Bool) → (a && b && c) ≡ (a && (b && c))
 two_and_two true b c = refl
@@ -143,21 +112,15 @@ module _ (l : List ℕ) (m x y : ℕ) (n w s e : HeldRect) where
       (eqb s.x1 w.x2 && eqb s.x2 e.x1 && eqb s.y1 0))
 
   -- W or E stands otherwise,
-  pub frame_ends : (a : Bool) → not a ≡ true → a ≡ ends_stand x y (rect_in w) (rect_in e) → x ≡ get_or l 3 0 → y ≡ get_or l 4 0 → rect_in n ≡ rect_of (plan_at m l) 0
-      → rect_in w ≡ rect_of (plan_at m l) 1 → rect_in s ≡ rect_of (plan_at m l) 2 → rect_in e ≡ rect_of (plan_at m l) 3 → false ≡ framed (plan_at m l)
-  frame_ends a t ea ex ey en ew es ee = rw (frame_is ex ey en ew es ee, ← ea, not-true a t)
+  pub frame_ends : (a : Bool) → a ≡ false → a ≡ ends_stand x y (rect_in w) (rect_in e) → x ≡ get_or l 3 0 → y ≡ get_or l 4 0 → rect_in n ≡ rect_of (plan_at m l) 0
+      → rect_in w ≡ rect_of (plan_at m l) 1 → rect_in s ≡ rect_of (plan_at m l) 2 → rect_in e ≡ rect_of (plan_at m l) 3 → a ≡ framed (plan_at m l)
+  frame_ends a t ea ex ey en ew es ee = rw (frame_is ex ey en ew es ee, ← ea, t)
 
   -- or else it comes to N and S
-  pub frame_levels : (a b : Bool) → b ≡ levels_lie y (rect_in n) (rect_in w) (rect_in s) (rect_in e) → not a ≡ false → a ≡ ends_stand x y (rect_in w) (rect_in e)
+  pub frame_levels : (a b : Bool) → b ≡ levels_lie y (rect_in n) (rect_in w) (rect_in s) (rect_in e) → a ≡ true → a ≡ ends_stand x y (rect_in w) (rect_in e)
       → x ≡ get_or l 3 0 → y ≡ get_or l 4 0 → rect_in n ≡ rect_of (plan_at m l) 0 → rect_in w ≡ rect_of (plan_at m l) 1 → rect_in s ≡ rect_of (plan_at m l) 2
       → rect_in e ≡ rect_of (plan_at m l) 3 → b ≡ framed (plan_at m l)
-  frame_levels a b eb t ea ex ey en ew es ee = rw (frame_is ex ey en ew es ee, ← ea, not-false a t) eb
-
--- a rectangle between four sides
-pub between_is : (n w s e r : HeldRect) (a b d : Bool) → a ≡ (leb w.x2 r.x1 && leb r.x2 e.x1) → b ≡ (leb s.y2 r.y1 && leb r.y2 n.y1)
-    → d ≡ (a && b) → d ≡ between_sides (rect_in n) (rect_in w) (rect_in s) (rect_in e) (rect_in r)
-unfolding between_sides rect_in
-between_is n w s e r a b d ea eb ed = rw (← ea, ← eb) ed
+  frame_levels a b eb t ea ex ey en ew es ee = rw (frame_is ex ey en ew es ee, ← ea, t) eb
 
 -- between the sides of the plan's frame
 pub lies_is : (p : Plan) (v : ℕ) (n w s e r : HeldRect) (b : Bool) → b ≡ between_sides (rect_in n) (rect_in w) (rect_in s) (rect_in e) (rect_in r) → rect_in n ≡ rect_of p 0
@@ -166,7 +129,13 @@ unfolding between between_sides
 lies_is p v n w s e r b q en ew es ee er = rw (← en, ← ew, ← es, ← ee, ← er) q
 
 -- a rectangle of at least a size
-pub large_is : (p : Plan) (z : Size) (v : ℕ) (r : HeldRect) (x1 x2 y1 y2 a w b h : ℕ) (d : Bool) → rect_in r ≡ rect_of p v → a ≡ z.wide → w ≡ a → b ≡ z.tall → h ≡ b
-    → x1 ≡ r.x1 → x2 ≡ r.x2 → y1 ≡ r.y1 → y2 ≡ r.y2 → d ≡ (leb (x1 + w) x2 && leb (y1 + h) y2) → d ≡ large z (rect_of p v)
-unfolding large rect_in
-large_is p z v r x1 x2 y1 y2 a w b h d er ea ew eb eh e₁ e₂ e₃ e₄ ed = rw (← er, ← ea, ← ew, ← eb, ← eh, ← e₁, ← e₂, ← e₃, ← e₄) ed
+module _ (p : Plan) (z : Size) (v : ℕ) (r : HeldRect) (er : rect_in r ≡ rect_of p v) (x1 x2 a w : ℕ) (ea : a ≡ z.wide) (ew : w ≡ a) (e₁ : x1 ≡ r.x1) (e₂ : x2 ≡ r.x2) where
+  -- it is not wide enough,
+  pub narrow : x2 < x1 + w → leb (x1 + w) x2 ≡ large z (rect_of p v)
+  unfolding large rect_in
+  narrow h = rw (← er, ← ea, ← ew, ← e₁, ← e₂, lt-leb (x1 + w) x2 h)
+
+  -- or else it comes to its height
+  pub wide_enough : (y1 y2 b h : ℕ) → x1 + w ≤ x2 → b ≡ z.tall → h ≡ b → y1 ≡ r.y1 → y2 ≡ r.y2 → leb (y1 + h) y2 ≡ large z (rect_of p v)
+  unfolding large rect_in
+  wide_enough y1 y2 b h l eb eh e₃ e₄ = rw (← er, ← ea, ← ew, ← eb, ← eh, ← e₁, ← e₂, ← e₃, ← e₄, le-leb (x1 + w) x2 l)

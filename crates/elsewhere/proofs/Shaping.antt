@@ -13,32 +13,33 @@ use Rattle.floor.proofs.Lists.Laws.{same_test, and_parts}
 use Rattle.floor.specs.Fields.{Field, broken, field, read_field, rest_of}
 use Rattle.floor.specs.Plans.{Rect}
 use Rattle.floor.specs.Foreign.{rect_from, rect_then, read_rects, on_sheet, plan_first, read_plan}
-use Rattle.fields.specs.declared.Found.{Found}
-use Rattle.fields.specs.declared.Found.TheVariants.{Broken, Whole}
+use Rattle.std.specs.Prelude.{Option as Answer, Some, None}
+use Rattle.fields.specs.declared.Field.{Field as Found}
 use Rattle.fields.specs.Found.{found, Stands}
 use Rattle.fields.proofs.Laws.{no_field, the_field, within}
 use Rattle.elsewhere.specs.Placed.{place_of, rect_at, rects_at, plan_at}
 use Rattle.elsewhere.specs.Shapes.{has_shape, rect_shaped, rects_shaped, plan_shaped}
 
 -- what is asked of the field at a place
-module _ (s : List ℕ) (at : ℕ) (f : Found) (t n : ℕ) where
+module _ (s : List ℕ) (at : ℕ) (f : Answer Found) (t n : ℕ) where
   -- no whole field has any shape
-  pub shape_none : f ≡ Broken → found f s ≡ read_field (drop at s) → false ≡ has_shape t n (read_field (drop at s))
+  pub shape_none : f ≡ None → found f s ≡ read_field (drop at s) → false ≡ has_shape t n (read_field (drop at s))
   unfolding has_shape
   shape_none b e = rw (no_field s at f b e)
 
-  module _ (x a e : ℕ) (w : f ≡ Whole x a e) (q : found f s ≡ read_field (drop at s)) where
+  module _ (w : Found) (o : f ≡ Some w) (q : found f s ≡ read_field (drop at s)) where
     -- one of another tag has another shape
-    pub shape_tag : (x ≡ t → ⊥) → false ≡ has_shape t n (read_field (drop at s))
+    pub shape_tag : (w.tag ≡ t → ⊥) → false ≡ has_shape t n (read_field (drop at s))
     unfolding has_shape
-    shape_tag h = rw (the_field s at f x a e w q, ne_eqb x t h)
+    shape_tag h = rw (the_field s at f w o q, ne_eqb w.tag t h)
 
     -- one of this tag has this shape exactly if it has this length
-    pub shape_length : Stands f at (length s) → x ≡ t → eqb (e - a) n ≡ has_shape t n (read_field (drop at s))
+    pub shape_length : Stands f at (length s) → w.tag ≡ t → eqb (w.end - w.start) n ≡ has_shape t n (read_field (drop at s))
     unfolding has_shape
     shape_length p h =
-        let l : length (take (e - a) (drop a s)) ≡ e - a = length-take-le (e - a) (drop a s) (simp length-drop (omega (arith, within s at f x a e w p))) in
-        rw (the_field s at f x a e w q, eq-eqb x t h, l)
+        let l : length (take (w.end - w.start) (drop w.start s)) ≡ w.end - w.start
+        = length-take-le (w.end - w.start) (drop w.start s) (simp length-drop (omega (arith, within s at f w o p))) in
+        rw (the_field s at f w o q, eq-eqb w.tag t h, l)
 
 -- a field that was read: its value is so many bytes behind the head, and what follows stands behind them
 field_parts : (l : List ℕ) (t : ℕ) (b rest : List ℕ) → read_field l ≡ field t b rest
@@ -177,17 +178,17 @@ plan_placed n plan = go (read_field plan) refl
 
 module _ (plan : List ℕ) (v : ℕ) (b : Bool) (e : b ≡ has_shape 4 5 (read_field (drop (place_of v) plan))) where
   -- a vertex's field of another shape
-  pub rect_other : not b ≡ true → false ≡ rect_shaped v (drop (place_of v) plan)
+  pub rect_other : b ≡ false → false ≡ rect_shaped v (drop (place_of v) plan)
   unfolding rect_shaped
-  rect_other t = rw (← e, not-true b t)
+  rect_other t = rw (← e, t)
 
   -- a vertex's field of that shape: it comes to the vertex that it names
-  pub rect_names : (x y : ℕ) → not b ≡ false → y ≡ get_or plan (8 + 8 * v) 0 → x ≡ y → eqb x v ≡ rect_shaped v (drop (place_of v) plan)
+  pub rect_names : (x y : ℕ) → b ≡ true → y ≡ get_or plan (8 + 8 * v) 0 → x ≡ y → eqb x v ≡ rect_shaped v (drop (place_of v) plan)
   unfolding rect_shaped
   rect_names x y t ey ex =
       let k : place_of v + 3 ≡ 8 + 8 * v = omega arith in
       let q : get_or (drop (place_of v) plan) 3 0 ≡ x = get_or-drop (place_of v) plan 3 0 ∙ ap (λ (i : ℕ). get_or plan i 0) k ∙ sym (ex ∙ ey) in
-      rw (← e, not-false b t, q)
+      rw (← e, t, q)
 
 -- the fields of the vertices, one by one
 module _ (plan : List ℕ) (m v : ℕ) (w : Bool) (inv : rects_shaped v (m - v) (drop (place_of v) plan) ≡ w) where
@@ -223,12 +224,12 @@ module _ (plan : List ℕ) (m v : ℕ) (w : Bool) (inv : rects_shaped v (m - v) 
 -- the whole
 module _ (plan : List ℕ) (n : ℕ) (b : Bool) (e : b ≡ has_shape 3 2 (read_field (drop 0 plan))) where
   -- a sheet's field of another shape
-  pub sheet_other : not b ≡ true → read_plan n plan ≡ cond false (some (plan_at n plan)) none
+  pub sheet_other : b ≡ false → read_plan n plan ≡ cond false (some (plan_at n plan)) none
   unfolding plan_shaped
-  sheet_other t = plan_placed n plan ∙ rw (← e, not-true b t)
+  sheet_other t = plan_placed n plan ∙ rw (← e, t)
 
   -- one of its shape: it comes to the vertices
-  pub sheet_then : (m : ℕ) (r : Bool) → not b ≡ false → m ≡ n → r ≡ rects_shaped 0 (m + 4) (drop 5 plan)
+  pub sheet_then : (m : ℕ) (r : Bool) → b ≡ true → m ≡ n → r ≡ rects_shaped 0 (m + 4) (drop 5 plan)
       → read_plan n plan ≡ cond r (some (plan_at n plan)) none
   unfolding plan_shaped
-  sheet_then m r t em er = plan_placed n plan ∙ rw (← e, not-false b t, ← em, ← er)
+  sheet_then m r t em er = plan_placed n plan ∙ rw (← e, t, ← em, ← er)

@@ -3,6 +3,7 @@ use Rattle.std.specs.Prelude.{ℕ, zero, suc, ◌+◌, ◌*◌, Bool, ◌&&◌, 
 use Rattle.floor.specs.Jobs.{Entry}
 use Rattle.floor.specs.Plans.{Rect, Plan, rect_of}
 use Rattle.floor.specs.Foreign.{stands_on}
+use Rattle.elsewhere.specs.declared.Drawn.{Drawn}
 
 -- where the field of a vertex starts
 abbrev pub place_of : ℕ → ℕ
@@ -27,6 +28,10 @@ rects_at (suc m) v b = rect_at b v ∷ rects_at m (suc v) b
 -- THE PLAN OF n ROOMS, whatever stands in the bytes
 unfoldable pub plan_at : ℕ → List ℕ → Plan
 plan_at n b = record { width = get_or b 3 0; height = get_or b 4 0; rects = rects_at (n + 4) 0 b }
+
+-- the plan that is asked
+abbrev pub plan_drawn : Drawn → Plan
+plan_drawn d = plan_at d.rooms d.bytes.now
 
 -- an entry of u's star stands on its labelled side
 unfoldable pub stands_at : Plan → ℕ → Entry → Bool

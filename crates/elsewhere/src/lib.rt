@@ -1,15 +1,17 @@
 // Plans drawn elsewhere: whether a plan's bytes are those of a plan that is good for a job, in time by the job's rooms and pairs.
 #![tactic(auto)]
 
-ghost use Rattle.std.specs.Prelude.{◌≡◌};
+ghost use Rattle.std.specs.Prelude.{◌≡◌, ◌<◌};
 ghost use Rattle.floor.specs.Jobs.{sized_job};
 ghost use Rattle.floor.specs.Foreign.{read_plan, good_for, judge_plan, judged};
-ghost use Rattle.stars.specs.Held.{job_in};
-ghost use Rattle.stars.specs.Sized.{sizes_in};
-ghost use Rattle.elsewhere.specs.Placed.{plan_at};
+ghost use Rattle.stars.specs.Held.{job_held};
+ghost use Rattle.stars.specs.Sized.{sizes_lent};
+ghost use Rattle.elsewhere.specs.Placed.{plan_drawn};
 ghost use Rattle.elsewhere.specs.Answers.{verdict};
 
-use jobs::Answer;
+use refusals::Refusal;
+use stars::held::Held;
+use stars::least::Least;
 
 mod shape; // shape.rt: whether the bytes are shaped as a plan (16)
 mod rects; // rects.rt: the rectangles, read straight from the bytes
@@ -19,75 +21,57 @@ mod round; // round.rt: once round a star
 mod rooms; // rooms.rt: what is asked of each room, and the rooms in the corner between W and S
 pub mod text; // text.rt: what is printed of an answer
 
-// What is answered: a refusal's number, or yes or no.
+// A plan's bytes, asked as those of a plan of so many rooms.
 #[derive(Clone, Copy)]
-pub enum Verdict {
-    Refused(u8),
-    Says(bool),
+pub(crate) struct Drawn<'a> {
+    pub bytes: &'a [u8],
+    pub rooms: u8,
 }
 
 // Whether the plan that stands in the bytes is good for held stars with their least sizes.
-fn good_for<'a>(
-    plan: &'a [u8],
-    ends: &'a [u16],
-    nbr: &'a [u16],
-    kind: &'a [u8],
-    count: u8,
-    told: u8,
-    sizes: &'a [u8],
-) -> bool
-    ensures { result ≡ good_for (sized_job (job_in count ends.now nbr.now kind.now) (sizes_in told sizes.now))
-        (plan_at count plan.now) }
+#[tactic(auto, unfolding(floor::specs::Foreign::good_for, floor::specs::Foreign::one_in_corner, crate::specs::Placed::plan_at))]
+fn good_for(plan: &Drawn, stars: &Held, sizes: &Least) -> bool
+    requires { stars.now.count < 65536 }
+    ensures { result ≡ good_for (sized_job (job_held stars.now) (sizes_lent sizes.now)) (plan_drawn plan.now) }
 {
-    if !sheet::all_inside(plan, count) {
-        return false;
-    }
-    if !sheet::frame_lies(plan, count) {
-        return false;
-    }
-    if !rooms::rooms_good(plan, ends, nbr, kind, count, told, sizes) {
-        return false;
-    }
-    rooms::in_corner(ends, nbr, kind, count) == 1
+    plan.all_inside()
+        && plan.frame_lies()
+        && rooms::rooms_good(plan, stars, sizes)
+        && rooms::in_corner(stars) == 1
 }
 
 // A plan's bytes asked for held stars with their least sizes: 16, then yes or no.
-fn judge_plan<'a>(
-    plan: &'a [u8],
-    ends: &'a [u16],
-    nbr: &'a [u16],
-    kind: &'a [u8],
-    count: u8,
-    told: u8,
-    sizes: &'a [u8],
-) -> Verdict
-    ensures { verdict result ≡ judge_plan (sized_job (job_in count ends.now nbr.now kind.now) (sizes_in told sizes.now))
-        (read_plan count plan.now) }
+#[tactic(auto, using(crate::proofs::Judging::judge_sixteen, crate::proofs::Judging::judge_says))]
+fn judge_plan(plan: &Drawn, stars: &Held, sizes: &Least) -> Result<bool, Refusal>
+    requires { stars.now.count < 65536 }
+    ensures { verdict result ≡ judge_plan (sized_job (job_held stars.now) (sizes_lent sizes.now))
+        (read_plan plan.now.rooms plan.now.bytes.now) }
 {
-    if !shape::plan_shaped(plan, count) {
-        return Verdict::Refused(16);
+    if !plan.shaped() {
+        return Err(Refusal::NotAPlan);
     }
-    Verdict::Says(good_for(plan, ends, nbr, kind, count, told, sizes))
+    Ok(good_for(plan, stars, sizes))
 }
 
 // The answer to a job's bytes and a plan's bytes: the job's 1 to 6 in order, 17, then 16, then yes or no.
-pub fn judge<'a>(job: &'a [u8], plan: &'a [u8]) -> Verdict
+#[tactic(auto, using(crate::proofs::Judging::judge_refused, crate::proofs::Judging::judge_passed))]
+pub fn judge(job: &[u8], plan: &[u8]) -> Result<bool, Refusal>
     ensures { verdict result ≡ judged job.now plan.now }
 {
-    let read = jobs::read_job(job);
-    let answer = read.answer;
-    let stars = read.stars;
-    let sizes = read.sizes;
-    match answer {
-        Answer::Refused(k) => Verdict::Refused(k),
-        Answer::Passed => judge_plan(
-            plan,
-            &stars.ends,
-            &stars.nbr,
-            &stars.kind,
-            stars.count,
-            sizes.told,
-            &sizes.list,
-        ),
-    }
+    let read = jobs::read_job(job)?;
+    let stars = Held {
+        count: usize::from(read.stars.count),
+        ends: &read.stars.ends,
+        nbr: &read.stars.nbr,
+        kind: &read.stars.kind,
+    };
+    let sizes = Least {
+        told: usize::from(read.sizes.told),
+        list: &read.sizes.list,
+    };
+    let drawn = Drawn {
+        bytes: plan,
+        rooms: read.stars.count,
+    };
+    judge_plan(&drawn, &stars, &sizes)
 }

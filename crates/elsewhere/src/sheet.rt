@@ -1,108 +1,92 @@
 // Every rectangle inside the sheet, the frame, and a room between the frame's sides and of its least size.
-ghost use Rattle.std.specs.Prelude.{◌≡◌, ◌&&◌, ◌+◌, ◌<◌};
+ghost use Rattle.std.specs.Prelude.{◌≡◌, ◌+◌, ◌<◌};
 ghost use Rattle.floor.specs.Lists.{all};
 ghost use Rattle.floor.specs.Jobs.{size_of};
 ghost use Rattle.floor.specs.Plans.{rect_of, inside};
 ghost use Rattle.floor.specs.Foreign.{framed, between, large};
-ghost use Rattle.stars.specs.Sized.{sizes_in};
+ghost use Rattle.stars.specs.Sized.{sizes_lent};
 ghost use Rattle.drawing.specs.Rects.{rect_in};
-ghost use Rattle.elsewhere.specs.Placed.{rects_at, plan_at, ends_stand, levels_lie, between_sides};
+ghost use Rattle.elsewhere.specs.Placed.{rects_at, plan_drawn, ends_stand, levels_lie, between_sides};
 
-use crate::rects::rect_of;
-use crate::sides::both;
+use crate::Drawn;
 use drawing::Rect;
-
-// Whether every rectangle has at least a cell and lies inside the sheet; asked before any other test.
-pub fn all_inside(plan: &[u8], rooms: u8) -> bool
-    ensures { result ≡ all (inside (plan_at rooms plan.now)) (rects_at (rooms + 4) 0 plan.now) }
-{
-    let many = fields::wide(rooms) + 4;
-    let width = crate::rects::coordinate(plan, 3);
-    let height = crate::rects::coordinate(plan, 4);
-    let mut v: usize = 0;
-    while v < many {
-        let r = crate::rects::rect_at(plan, v);
-        if !drawing::rects::inside(width, height, r) {
-            return false;
-        }
-        v += 1;
-    }
-    true
-}
-
-// Whether all three hold.
-fn three(a: bool, b: bool, c: bool) -> bool
-    ensures { result ≡ (a && b && c) }
-{
-    both(both(a, b), c)
-}
+use stars::least::Least;
 
 // Whether W and E stand at the ends of a sheet so wide and so high, full height.
+#[tactic(auto, unfolding(crate::specs::Placed::ends_stand, drawing::specs::Rects::rect_in))]
 fn ends_stand(width: u16, height: u16, w: Rect, e: Rect) -> bool
     ensures { result ≡ ends_stand width height (rect_in w) (rect_in e) }
 {
-    if !three(w.x1 == 0, w.y1 == 0, w.y2 == height) {
-        return false;
-    }
-    three(e.x2 == width, e.y1 == 0, e.y2 == height)
+    (w.x1 == 0 && w.y1 == 0 && w.y2 == height) && (e.x2 == width && e.y1 == 0 && e.y2 == height)
 }
 
 // Whether N and S lie between them, at the top and at the bottom of a sheet so high.
+#[tactic(auto, unfolding(crate::specs::Placed::levels_lie, drawing::specs::Rects::rect_in))]
 fn levels_lie(height: u16, n: Rect, w: Rect, s: Rect, e: Rect) -> bool
     ensures { result ≡ levels_lie height (rect_in n) (rect_in w) (rect_in s) (rect_in e) }
 {
-    if !three(n.x1 == w.x2, n.x2 == e.x1, n.y2 == height) {
-        return false;
-    }
-    three(s.x1 == w.x2, s.x2 == e.x1, s.y1 == 0)
-}
-
-// Whether the frame lies as in ours: W and E full height, N and S between.
-pub fn frame_lies(plan: &[u8], rooms: u8) -> bool
-    ensures { result ≡ framed (plan_at rooms plan.now) }
-{
-    let width = crate::rects::coordinate(plan, 3);
-    let height = crate::rects::coordinate(plan, 4);
-    let n = rect_of(plan, rooms, 0);
-    let w = rect_of(plan, rooms, 1);
-    let s = rect_of(plan, rooms, 2);
-    let e = rect_of(plan, rooms, 3);
-    if !ends_stand(width, height, w, e) {
-        return false;
-    }
-    levels_lie(height, n, w, s, e)
+    (n.x1 == w.x2 && n.x2 == e.x1 && n.y2 == height) && (s.x1 == w.x2 && s.x2 == e.x1 && s.y1 == 0)
 }
 
 // Whether a rectangle lies between four sides.
+#[tactic(auto, unfolding(crate::specs::Placed::between_sides, drawing::specs::Rects::rect_in))]
 fn between_sides(n: Rect, w: Rect, s: Rect, e: Rect, r: Rect) -> bool
     ensures { result ≡ between_sides (rect_in n) (rect_in w) (rect_in s) (rect_in e) (rect_in r) }
 {
-    let across = both(w.x2 <= r.x1, r.x2 <= e.x1);
-    let upward = both(s.y2 <= r.y1, r.y2 <= n.y1);
-    both(across, upward)
+    (w.x2 <= r.x1 && r.x2 <= e.x1) && (s.y2 <= r.y1 && r.y2 <= n.y1)
 }
 
-// Whether the rectangle of a vertex lies between the sides of the frame.
-pub fn lies_between(plan: &[u8], rooms: u8, v: usize) -> bool
-    ensures { result ≡ between (plan_at rooms plan.now) (rect_of (plan_at rooms plan.now) v) }
-{
-    let n = rect_of(plan, rooms, 0);
-    let w = rect_of(plan, rooms, 1);
-    let s = rect_of(plan, rooms, 2);
-    let e = rect_of(plan, rooms, 3);
-    between_sides(n, w, s, e, rect_of(plan, rooms, v))
-}
+impl Drawn<'_> {
+    // Whether every rectangle has at least a cell and lies inside the sheet; asked before any other test.
+    #[tactic(auto, using(crate::proofs::Placing::inside_first, crate::proofs::Placing::inside_false, crate::proofs::Placing::inside_all))]
+    pub fn all_inside(&self) -> bool
+        ensures { result ≡ all (inside (plan_drawn self.now)) (rects_at (self.now.rooms + 4) 0 self.now.bytes.now) }
+    {
+        let many = self.many();
+        let width = self.coordinate(3);
+        let height = self.coordinate(4);
+        for v in 0..many {
+            if !self.rect_at(v).inside(width, height) {
+                return false;
+            }
+        }
+        true
+    }
 
-// Whether a room, the i-th from the first, has at least its least size.
-pub fn is_large<'a>(plan: &'a [u8], rooms: u8, told: u8, sizes: &'a [u8], i: usize) -> bool
-    requires { i < 65536 }
-    ensures { result ≡ large (size_of (sizes_in told sizes.now) (4 + i)) (rect_of (plan_at rooms plan.now) (4 + i)) }
-{
-    let r = rect_of(plan, rooms, 4 + i);
-    let wide = fields::wide(stars::least::width_of(told, sizes, i));
-    let tall = fields::wide(stars::least::height_of(told, sizes, i));
-    both(
-        fields::number(r.x1) + wide <= fields::number(r.x2),
-        fields::number(r.y1) + tall <= fields::number(r.y2),
-    )
+    // Whether the frame lies as in ours: W and E full height, N and S between.
+    pub fn frame_lies(&self) -> bool
+        ensures { result ≡ framed (plan_drawn self.now) }
+    {
+        let width = self.coordinate(3);
+        let height = self.coordinate(4);
+        let n = self.rect_of(0);
+        let w = self.rect_of(1);
+        let s = self.rect_of(2);
+        let e = self.rect_of(3);
+        ends_stand(width, height, w, e) && levels_lie(height, n, w, s, e)
+    }
+
+    // Whether the rectangle of a vertex lies between the sides of the frame.
+    #[tactic(auto, using(crate::proofs::Placing::lies_is))]
+    pub fn lies_between(&self, v: usize) -> bool
+        ensures { result ≡ between (plan_drawn self.now) (rect_of (plan_drawn self.now) v) }
+    {
+        let n = self.rect_of(0);
+        let w = self.rect_of(1);
+        let s = self.rect_of(2);
+        let e = self.rect_of(3);
+        between_sides(n, w, s, e, self.rect_of(v))
+    }
+
+    // Whether a room, the i-th from the first, has at least its least size.
+    pub fn is_large(&self, sizes: &Least, i: usize) -> bool
+        requires { i < 65536 }
+        ensures { result ≡ large (size_of (sizes_lent sizes.now) (4 + i)) (rect_of (plan_drawn self.now) (4 + i)) }
+    {
+        let r = self.rect_of(4 + i);
+        let wide = usize::from(sizes.width_of(i));
+        let tall = usize::from(sizes.height_of(i));
+        usize::from(r.x1) + wide <= usize::from(r.x2)
+            && usize::from(r.y1) + tall <= usize::from(r.y2)
+    }
 }

@@ -9,8 +9,8 @@ use lib.Dec.{leb}
 use lib.ListN.{length, get_or, set, take, drop, length-drop, drop_of_length-le}
 use lib.Seq.{drop-cons, drop-drop, drop-length}
 use Rattle.floor.specs.Fields.{broken, field, read_field, value_of, rest_of}
-use Rattle.fields.specs.declared.Found.{Found}
-use Rattle.fields.specs.declared.Found.TheVariants.{Broken, Whole}
+use Rattle.std.specs.Prelude.{Option, Some, None}
+use Rattle.fields.specs.declared.Field.{Field}
 use Rattle.fields.specs.Found.{found, Stands, with_head}
 
 -- less than three bytes are no whole field
@@ -22,7 +22,7 @@ read_short (t ∷ x ∷ []) h = refl
 read_short (t ∷ x ∷ y ∷ r) h = absurd (omega arith)
 
 -- no room for a head
-pub field_short : (s : List ℕ) (at : ℕ) → length s < at + 3 → (found Broken s ≡ read_field (drop at s)) × Stands Broken at (length s)
+pub field_short : (s : List ℕ) (at : ℕ) → length s < at + 3 → (found None s ≡ read_field (drop at s)) × Stands None at (length s)
 unfolding found Stands
 field_short s at h = (read_short (drop at s) (simp length-drop (omega arith)), tt)
 
@@ -50,7 +50,7 @@ module _ (s : List ℕ) (at : ℕ) where
 
   -- the value runs past the end
   pub field_cut : (n : ℕ) → n ≡ word → at + 3 ≤ length s → length s - (at + 3) < n
-      → (found Broken s ≡ read_field (drop at s)) × Stands Broken at (length s)
+      → (found None s ≡ read_field (drop at s)) × Stands None at (length s)
   unfolding found Stands
   field_cut n e h k =
       let l : length (drop (at + 3) s) < word = simp length-drop (omega arith) in
@@ -58,7 +58,8 @@ module _ (s : List ℕ) (at : ℕ) where
 
   -- a whole field
   pub field_whole : (n : ℕ) → n ≡ word → at ≤ length s → 3 ≤ length s - at → n ≤ length s - (at + 3)
-      → (found (Whole (get_or s at 0) (at + 3) (at + 3 + n)) s ≡ read_field (drop at s)) × Stands (Whole (get_or s at 0) (at + 3) (at + 3 + n)) at (length s)
+      → (found (Some (record { tag = get_or s at 0; start = at + 3; end = at + 3 + n })) s ≡ read_field (drop at s))
+      × Stands (Some (record { tag = get_or s at 0; start = at + 3; end = at + 3 + n })) at (length s)
   unfolding found Stands
   field_whole n e g m k =
       let h : at + 3 ≤ length s = omega arith in
@@ -67,60 +68,60 @@ module _ (s : List ℕ) (at : ℕ) where
       (sym (read_head h ∙ rw (le-leb word (length (drop (at + 3) s)) l, ← e, d, drop-drop n (at + 3) s)), (refl, omega arith, omega arith))
 
 -- what is promised of an answer on a place of some bytes; the proofs over the reader carry it as one fact
-abbrev pub tells : Found → List ℕ → ℕ → Type 0
+abbrev pub tells : Option Field → List ℕ → ℕ → Type 0
 tells f s at = (found f s ≡ read_field (drop at s)) × Stands f at (length s)
 
 -- what an answer tells of a place of some bytes, it tells of the same bytes and place by other names
-pub tells_there : (f : Found) (s t : List ℕ) (a b : ℕ) → s ≡ t → a ≡ b → tells f s a → tells f t b
+pub tells_there : (f : Option Field) (s t : List ℕ) (a b : ℕ) → s ≡ t → a ≡ b → tells f s a → tells f t b
 tells_there f s t a b p q e = rw (p, q) at e
 
 -- what an answer tells of the bytes
-module _ (s : List ℕ) (at : ℕ) (f : Found) where
+module _ (s : List ℕ) (at : ℕ) (f : Option Field) where
   -- where the answer is broken, no whole field stands there
-  pub no_field : f ≡ Broken → found f s ≡ read_field (drop at s) → read_field (drop at s) ≡ broken
+  pub no_field : f ≡ None → found f s ≡ read_field (drop at s) → read_field (drop at s) ≡ broken
   unfolding found
   no_field b e = sym e ∙ rw b
 
-  module _ (t a e : ℕ) where
+  module _ (w : Field) where
     -- where the answer is whole, the field there has this tag, this value and these bytes behind it
-    pub the_field : f ≡ Whole t a e → found f s ≡ read_field (drop at s) → read_field (drop at s) ≡ field t (take (e - a) (drop a s)) (drop e s)
+    pub the_field : f ≡ Some w → found f s ≡ read_field (drop at s) → read_field (drop at s) ≡ field w.tag (take (w.end - w.start) (drop w.start s)) (drop w.end s)
     unfolding found
-    the_field w q = sym q ∙ rw w
+    the_field o q = sym q ∙ rw o
 
     -- the value starts behind the three bytes of the head
-    pub starts : f ≡ Whole t a e → Stands f at (length s) → a ≡ at + 3
+    pub starts : f ≡ Some w → Stands f at (length s) → w.start ≡ at + 3
     unfolding Stands
-    starts w q = (rw w at q).0
+    starts o q = (rw o at q).0
 
     -- the value does not end before it starts
-    pub in_order_lem : f ≡ Whole t a e → Stands f at (length s) → a ≤ e
+    pub in_order_lem : f ≡ Some w → Stands f at (length s) → w.start ≤ w.end
     unfolding Stands
-    in_order_lem w q = (rw w at q).1
+    in_order_lem o q = (rw o at q).1
 
     -- the value ends within the bytes
-    pub within : f ≡ Whole t a e → Stands f at (length s) → e ≤ length s
+    pub within : f ≡ Some w → Stands f at (length s) → w.end ≤ length s
     unfolding Stands
-    within w q = (rw w at q).2
+    within o q = (rw o at q).2
 
 -- the value and what follows, as the code hands them on
-module _ (s : List ℕ) (at : ℕ) (f : Found) where
-  pub value_none : f ≡ Broken → found f s ≡ read_field (drop at s) → [] ≡ value_of (read_field (drop at s))
+module _ (s : List ℕ) (at : ℕ) (f : Option Field) where
+  pub value_none : f ≡ None → found f s ≡ read_field (drop at s) → [] ≡ value_of (read_field (drop at s))
   unfolding value_of
   value_none b e = rw (no_field s at f b e)
 
-  pub after_none : f ≡ Broken → found f s ≡ read_field (drop at s) → length s ≡ length s - length (rest_of (read_field (drop at s)))
+  pub after_none : f ≡ None → found f s ≡ read_field (drop at s) → length s ≡ length s - length (rest_of (read_field (drop at s)))
   unfolding rest_of
   after_none b e = rw (no_field s at f b e) (omega arith)
 
-  module _ (t a e : ℕ) where
-    pub value_whole : f ≡ Whole t a e → found f s ≡ read_field (drop at s) → take (e - a) (drop a s) ≡ value_of (read_field (drop at s))
+  module _ (w : Field) where
+    pub value_whole : f ≡ Some w → found f s ≡ read_field (drop at s) → take (w.end - w.start) (drop w.start s) ≡ value_of (read_field (drop at s))
     unfolding value_of
-    value_whole w q = rw (the_field s at f t a e w q)
+    value_whole o q = rw (the_field s at f w o q)
 
-    pub after_whole : f ≡ Whole t a e → found f s ≡ read_field (drop at s) → Stands f at (length s)
-        → e ≡ length s - length (rest_of (read_field (drop at s)))
+    pub after_whole : f ≡ Some w → found f s ≡ read_field (drop at s) → Stands f at (length s)
+        → w.end ≡ length s - length (rest_of (read_field (drop at s)))
     unfolding rest_of
-    after_whole w q p = rw (the_field s at f t a e w q) (simp length-drop (omega (arith, within s at f t a e w p)))
+    after_whole o q p = rw (the_field s at f w o q) (simp length-drop (omega (arith, within s at f w o p)))
 
 -- what follows the first field is an end of the bytes
 rest_cases : (n t h l : ℕ) (v r : List ℕ) (b : Bool) → leb n (length r) ≡ b

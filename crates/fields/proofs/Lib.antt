@@ -1,4 +1,3 @@
 pub mod Laws
 pub mod Puts
 pub mod Corollaries
-pub mod Same

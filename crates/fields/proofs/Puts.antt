@@ -9,7 +9,9 @@ use lib.Dec.{leb}
 use lib.ListN.{length, set}
 use lib.Seq.{sets, sets-eq}
 use Rattle.floor.specs.Calls.{refuse, writes}
-use Rattle.fields.specs.declared.Written.TheVariants.{Wrote, TooShort}
+use Rattle.std.specs.Prelude.{Ok, Err}
+use Rattle.refusals.specs.declared.Refusal.TheVariants.{TooShort}
+use Rattle.refusals.specs.Numbers.{number_of}
 use Rattle.fields.specs.Writes.{replied, writing}
 
 -- bytes put at a place and others put behind them are the two put as one
@@ -22,16 +24,16 @@ sets_append l i (x ∷ xs) ys =
 -- a writing refuses, or fills the front
 module _ (bs o : List ℕ) where
   -- too short a buffer: refused, and the buffer as it was
-  pub short_writes : length o < length bs → (replied TooShort ≡ (writing bs o).reply) × (o ≡ (writing bs o).buffer)
-  unfolding replied writing writes refuse
+  pub short_writes : length o < length bs → (replied (Err TooShort) ≡ (writing bs o).reply) × (o ≡ (writing bs o).buffer)
+  unfolding replied number_of writing writes refuse
   short_writes k =
       let z : leb (length bs) (length o) ≡ false = lt-leb (length bs) (length o) k in
       (rw z, rw z)
 
   -- a buffer with room: the length is told, and the front filled
   pub front_writes : (x : List ℕ) (l : ℕ) → l ≡ length bs → x ≡ sets o 0 bs → length bs ≤ length o
-      → (replied (Wrote l) ≡ (writing bs o).reply) × (x ≡ (writing bs o).buffer)
-  unfolding replied writing writes
+      → (replied (Ok l) ≡ (writing bs o).reply) × (x ≡ (writing bs o).buffer)
+  unfolding replied number_of writing writes
   front_writes x l e ex k =
       let z : leb (length bs) (length o) ≡ true = le-leb (length bs) (length o) k in
       let d : 0 + length bs ≡ length bs = omega arith in

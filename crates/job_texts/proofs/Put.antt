@@ -11,11 +11,9 @@ use Rattle.floor.specs.Quoted.{plain}
 use Rattle.floor.specs.Texts.{decimal}
 use Rattle.floor.specs.JobTexts.{side_words, frame_words, side_word, vertex_word, contact_text, contacts_text, size_text, comma_behind, size_behind, room_text, rooms_text}
 use Rattle.floor.specs.JobTexts.{job_text}
-use Rattle.stars.specs.declared.Stars.{Stars}
-use Rattle.stars.specs.declared.Sizes.{Sizes as HeldSizes}
 use Rattle.stars.specs.Pairs.{pair}
-use Rattle.stars.specs.Held.{to_at, entry_at, cells, start_of, end_of, held_star, stars_in, job_in, job_of}
-use Rattle.stars.specs.Sized.{size, sizes_in, sizes_of}
+use Rattle.stars.specs.Held.{to_at, entry_at, cells, start_of, end_of, held_star, stars_in, job_in}
+use Rattle.stars.specs.Sized.{size}
 use Rattle.stars.proofs.Holding.{cells_more, cells_done, held_more, held_done}
 use Rattle.letters.specs.Puts.{Puts}
 use Rattle.letters.proofs.Rows.{none_put, both_puts}
@@ -49,9 +47,11 @@ contact_parts : (v k : ℕ) → side_text k ++ vertex_word v ≡ contact_text (p
 unfolding side_text contact_text plain
 contact_parts v k = ap (λ (t : List ℕ). 32 ∷ t) (append_assoc (side_word k) (32 ∷ []) (vertex_word v))
 
--- a side put, and a vertex behind it, are a contact put
-pub contact_put : (v k : ℕ) {o x y : List ℕ} {at m r : ℕ} → Puts o at (side_text k) x m → Puts x m (vertex_word v) y r → Puts o at (contact_text (pair v k)) y r
-contact_put v k p q = rw contact_parts at (both_puts _ _ _ _ _ _ _ _ p q)
+-- a side put, and a vertex behind it, are the contact at a place put
+pub contact_put : (nbr kind : List ℕ) (i v k : ℕ) {o x y : List ℕ} {at m r : ℕ} → k ≡ get_or kind i 0 → v ≡ to_at nbr i → Puts o at (side_text k) x m
+    → Puts x m (vertex_word v) y r → Puts o at (contact_text (entry_at nbr kind i)) y r
+unfolding entry_at
+contact_put nbr kind i v k e f p q = rw (← e, ← f) (rw contact_parts at (both_puts _ _ _ _ _ _ _ _ p q))
 
 -- what is left of a text: put where it belongs, it ends the whole
 abbrev pub Left : List ℕ → ℕ → List ℕ → List ℕ → ℕ → List ℕ → Type 0
@@ -59,11 +59,10 @@ Left o at w x m t = (y : List ℕ) (r : ℕ) → Puts x m t y r → Puts o at w 
 
 -- contacts, a comma before each, to an end
 module _ (nbr kind : List ℕ) (end k : ℕ) {o w x : List ℕ} {at m : ℕ} where
-  pub more_next : (v e : ℕ) {y z : List ℕ} {p q : ℕ} → k < end → Puts y p (contact_text (pair v e)) z q → v ≡ to_at nbr k → e ≡ get_or kind k 0
-      → Puts x m (44 ∷ []) y p → Left o at w x m (more_text (cells (end - k) k nbr kind)) → Left o at w z q (more_text (cells (end - (k + 1)) (k + 1) nbr kind))
-  unfolding more_text entry_at plain
-  more_next v e h b ev ee a inv y r c =
-      inv y r (rw (cells_more nbr kind end k h, ← ev, ← ee) (both_puts _ _ _ _ _ _ _ _ a (both_puts _ _ _ _ _ _ _ _ b c)))
+  pub more_next : {y z : List ℕ} {p q : ℕ} → k < end → Puts y p (contact_text (entry_at nbr kind k)) z q → Puts x m (44 ∷ []) y p
+      → Left o at w x m (more_text (cells (end - k) k nbr kind)) → Left o at w z q (more_text (cells (end - (k + 1)) (k + 1) nbr kind))
+  unfolding more_text plain
+  more_next h b a inv y r c = inv y r (rw (cells_more nbr kind end k h) (both_puts _ _ _ _ _ _ _ _ a (both_puts _ _ _ _ _ _ _ _ b c)))
 
   pub more_done : end ≤ k → Left o at w x m (more_text (cells (end - k) k nbr kind)) → Puts o at w x m
   unfolding more_text
@@ -80,10 +79,9 @@ module _ (nbr kind : List ℕ) (end k : ℕ) {o : List ℕ} {at : ℕ} where
   unfolding contacts_text
   contacts_none h = rw (cells_done nbr kind end k h) (none_put o at)
 
-  pub contacts_put : (v e : ℕ) {x y : List ℕ} {m r : ℕ} → k < end → Puts x m (more_text (cells (end - (k + 1)) (k + 1) nbr kind)) y r
-      → Puts o at (contact_text (pair v e)) x m → v ≡ to_at nbr k → e ≡ get_or kind k 0 → Puts o at (contacts_text (cells (end - k) k nbr kind)) y r
-  unfolding entry_at
-  contacts_put v e h q p ev ee = rw (cells_more nbr kind end k h, ← ev, ← ee, ← first_contact) (both_puts _ _ _ _ _ _ _ _ p q)
+  pub contacts_put : {x y : List ℕ} {m r : ℕ} → k < end → Puts x m (more_text (cells (end - (k + 1)) (k + 1) nbr kind)) y r
+      → Puts o at (contact_text (entry_at nbr kind k)) x m → Puts o at (contacts_text (cells (end - k) k nbr kind)) y r
+  contacts_put h q p = rw (cells_more nbr kind end k h, ← first_contact) (both_puts _ _ _ _ _ _ _ _ p q)
 
 -- a least size: `at least`, the width, `by`, the height
 pub size_put : (w h x y : ℕ) {o p q s t : List ℕ} {at a b c r : ℕ} → x ≡ w → y ≡ h → Puts o at (plain " at least ") p a → Puts p a (decimal x) q b
@@ -141,7 +139,7 @@ module _ (ends nbr kind : List ℕ) (z : Sizes) (n i : ℕ) {o w x : List ℕ} {
   rooms_done h inv = inv x m (rw (held_done ends nbr kind n i h) (none_put x m))
 
 -- nothing written yet
-pub rooms_first : (s : Stars) (g : HeldSizes) {o : List ℕ} (n : ℕ) → n ≡ s.count
-    → Left o 0 (job_text (sized_job (job_of s) (sizes_of g))) o 0 (rooms_text (4 + 0) (job_in (n - 0) s.ends s.nbr s.kind) (sizes_in g.told g.list))
-unfolding job_text job_of sizes_of
-rooms_first s g n e y r p = let z : n - 0 ≡ s.count = omega arith in rw z at p
+pub rooms_first : (n : ℕ) (ends nbr kind : List ℕ) (z : Sizes) {o : List ℕ}
+    → Left o 0 (job_text (sized_job (job_in n ends nbr kind) z)) o 0 (rooms_text (4 + 0) (job_in (n - 0) ends nbr kind) z)
+unfolding job_text
+rooms_first n ends nbr kind z y r p = let e : n - 0 ≡ n = omega arith in rw e at p

@@ -1,18 +1,23 @@
 -- What a word says, as the code comes by it. Assumes nothing.
 use Prim.Native.Nat.{ℕ, suc, ◌+◌, ◌-◌, ◌*◌, ◌<◌, ◌≤◌}
-use mathlib.Core.Path.{◌≡◌, refl, sym, ◌∙◌}
-use mathlib.Core.Bool.{Bool, true, false, cond}
-use mathlib.Core.Option.{Option, none, some}
-use mathlib.Core.List.{List, [], ◌∷◌}
+use mathlib.Core.Path.{◌≡◌, refl, sym, ◌∙◌, ap}
+use mathlib.Core.Bool.{Bool, true, false, cond, not}
+use mathlib.Core.Option.{Option as Maybe, none, some}
+use mathlib.Core.List.{List, [], ◌∷◌, map}
+use denote.Ref.{Bor}
 use native.Mathlib.Omega.{arith}
-use borrow.Author.Tests.{le-leb, lt-leb, lt-ltb, le-ltb, ltb-false, ne_eqb}
+use borrow.Author.Tests.{lt-ltb, le-ltb, ltb-true, ltb-false, ne_eqb}
 use lib.Dec.{ltb, eqb}
 use lib.ListN.{length, get_or, drop, drop_of_length-le}
 use lib.Seq.{drop-cons}
+use Rattle.std.specs.Prelude.{Option, None, Some, Result, Ok, Err, OkIff}
+use Rattle.std.specs.Option.{option_or}
+use Rattle.std.specs.Result.{result_ok}
+use Rattle.std.specs.List.{position_or_len}
 use Rattle.floor.specs.Lists.{same_numbers}
 use Rattle.floor.specs.Quoted.{plain}
 use Rattle.floor.specs.JobTexts.{side_words, frame_words, digit, digits_on, number_of, place_of, kind_of_word, a_byte, or_else, vertex_of_word, says}
-use Rattle.job_texts.specs.Reads.{below}
+use Rattle.job_texts.specs.Reads.{said, said_on}
 
 -- a number that no byte holds only grows
 too_large : (n : ℕ) (t : List ℕ) → 256 ≤ n → a_byte (digits_on n t) ≡ none
@@ -24,40 +29,24 @@ too_large n (b ∷ t) h = go (digit b) (too_large (10 * n + (b - 48)) t (omega a
     go true e = e
     go false e = refl
 
--- a number with a digit more: whatever follows, it says what the number and the digit say
-abbrev pub DigitMore : ℕ → ℕ → ℕ → Type 0
-DigitMore n b r = ((t : List ℕ) → a_byte (digits_on r t) ≡ a_byte (digits_on n (b ∷ t))) × (r ≤ 256)
+-- a number with a digit more
+module _ (n b : ℕ) (t : List ℕ) where
+  -- a byte that is no digit leaves no number
+  pub no_digit : digit b ≡ false → said_on None t ≡ a_byte (digits_on n (b ∷ t))
+  unfolding said_on digits_on a_byte
+  no_digit f = rw f
 
-module _ (n b d : ℕ) (e : d ≡ b) where
-  -- a byte that is no digit leaves no number: 256 stands for none
-  no_digit : digit b ≡ false → DigitMore n b 256
-  unfolding digits_on a_byte
-  no_digit f = (λ t. rw f (too_large 256 t (omega arith)), omega arith)
+  -- a digit makes ten times the number and the digit, where a byte holds that
+  pub digit_said : {E : Type 0} (r : Result ℕ E) (m : ℕ) → OkIff r (m < 256) m → m ≡ 10 * n + (b - 48) → digit b ≡ true
+      → said_on (result_ok r) t ≡ a_byte (digits_on n (b ∷ t))
+  unfolding said_on digits_on
+  digit_said (Ok x) m h e f = let z : x ≡ 10 * n + (b - 48) = omega arith in rw (f, z)
+  digit_said (Err x) m h e f = rw (f, too_large (10 * n + (b - 48)) t (omega arith))
 
-  pub digit_low : d < 48 → DigitMore n b 256
-  unfolding digit
-  digit_low h = no_digit (rw (← e, lt-leb 48 d h))
-
-  pub digit_high : 48 ≤ d → 57 < d → DigitMore n b 256
-  unfolding digit
-  digit_high h g = no_digit (rw (← e, le-leb 48 d h, lt-leb d 57 g))
-
-  module _ (h : 48 ≤ d) (g : d ≤ 57) where
-    -- a digit behind a number makes ten times the number and the digit
-    a_digit : (t : List ℕ) → digits_on n (b ∷ t) ≡ digits_on (10 * n + (d - 48)) t
-    unfolding digits_on digit
-    a_digit t = rw (← e, le-leb 48 d h, le-leb d 57 g)
-
-    pub digit_more : 10 * n + (d - 48) < 256 → DigitMore n b (10 * n + (d - 48))
-    digit_more l = (λ t. rw (a_digit t), omega arith)
-
-    pub digit_over : 256 ≤ 10 * n + (d - 48) → DigitMore n b 256
-    digit_over l = (λ t. rw (a_digit t, too_large 256 t (omega arith), too_large (10 * n + (d - 48)) t l), omega arith)
-
--- a number, digit by digit
-pub no_number : (w : List ℕ) → length w ≡ 0 → (below 256 256 ≡ a_byte (number_of w)) × (256 ≤ 256)
-unfolding below number_of a_byte
-no_number [] e = (refl, omega arith)
+-- no digits, no number
+pub no_number : (w : List ℕ) → length w ≡ 0 → said None ≡ a_byte (number_of w)
+unfolding said number_of a_byte
+no_number [] e = refl
 no_number (b ∷ w) e = absurd (omega arith)
 
 -- a word that is not empty says what its digits say behind a 0
@@ -66,19 +55,26 @@ unfolding number_of
 number_first [] n = absurd (n refl)
 number_first (b ∷ w) n = refl
 
-module _ (w : List ℕ) (n i : ℕ) (v : Option ℕ) where
-  pub number_next : (m : ℕ) → ((t : List ℕ) → a_byte (digits_on m t) ≡ a_byte (digits_on n (get_or w i 0 ∷ t))) → i < length w
-      → a_byte (digits_on n (drop i w)) ≡ v → a_byte (digits_on m (drop (i + 1) w)) ≡ v
-  number_next m e h inv =
-      let s : i + 1 ≡ suc i = omega arith in
-      rw (s, e (drop (suc i) w)) (rw (drop-cons w i 0 h) at inv)
+-- a number, digit by digit
+module _ (w : List ℕ) (n i : ℕ) (v : Maybe ℕ) (inv : a_byte (digits_on n (drop i w)) ≡ v) where
+  module _ (r : Option ℕ) (e : (t : List ℕ) → said_on r t ≡ a_byte (digits_on n (get_or w i 0 ∷ t))) (h : i < length w) where
+    digit_here : said_on r (drop (i + 1) w) ≡ v
+    digit_here = let s : i + 1 ≡ suc i = omega arith in rw (s, e (drop (suc i) w)) (rw (drop-cons w i 0 h) at inv)
 
-  pub number_done : length w ≤ i → a_byte (digits_on n (drop i w)) ≡ v → below 256 n ≡ v
-  unfolding digits_on a_byte below
-  number_done h inv = rw (drop_of_length-le w h) at inv
+    pub number_next : (m : ℕ) → r ≡ Some m → a_byte (digits_on m (drop (i + 1) w)) ≡ v
+    unfolding said_on
+    number_next m s = rw s at digit_here
+
+    pub number_stops : r ≡ None → said None ≡ v
+    unfolding said_on said
+    number_stops s = rw s at digit_here
+
+  pub number_done : length w ≤ i → n < 256 → said (Some n) ≡ v
+  unfolding said digits_on a_byte
+  number_done h l = rw (drop_of_length-le w h, lt-ltb n 256 l) at inv
 
 -- just this number below 256 is said where a byte says it
-said_byte : (r : ℕ) (x : Option ℕ) → r < 256 → says r x ≡ says r (a_byte x)
+said_byte : (r : ℕ) (x : Maybe ℕ) → r < 256 → says r x ≡ says r (a_byte x)
 unfolding says a_byte
 said_byte r none h = refl
 said_byte r (some n) h = go (ltb n 256) refl
@@ -87,47 +83,50 @@ said_byte r (some n) h = go (ltb n 256) refl
     go true t = refl
     go false t = ne_eqb n r (λ e. omega (arith, ltb-false n 256 t))
 
--- where k stands for the byte that is said, a number below 256 is said exactly if it is k
-pub said_number : (k r : ℕ) (x : Option ℕ) → below 256 k ≡ a_byte x → r < 256 → says r x ≡ eqb k r
-unfolding below says a_byte
-said_number k r x e h = said_byte r x h ∙ (rw (← e) (sym (said_byte r (some k) h)))
+-- where the code tells the byte that is said, just this number below 256 is said exactly if the code tells it
+pub said_number : (k : Option ℕ) (r : ℕ) (x : Maybe ℕ) → said k ≡ a_byte x → r < 256 → says r x ≡ says r (said k)
+said_number k r x e h = said_byte r x h ∙ ap (says r) (sym e)
 
--- the place of a word among four
-module _ (w p q r s : List ℕ) (a : Bool) (ea : a ≡ same_numbers w p) where
-  pub first : a ≡ true → place_of 0 w (p ∷ q ∷ r ∷ s ∷ []) ≡ below 4 0
-  unfolding place_of below
-  first ta = rw (← ea, ta)
+-- the place of a word among some, as `position` finds it
+place_lem : (i : ℕ) (w : List ℕ) (ws : List (Bor (List ℕ)))
+    → place_of i w (map (λ x. x.now) ws) ≡ cond (ltb (position_or_len (λ x. same_numbers w x.now) ws) (length ws)) (some (i + position_or_len (λ x. same_numbers w x.now) ws)) none
+unfolding place_of
+place_lem i w [] = refl
+place_lem i w (x ∷ ws) = go (same_numbers w x.now) (place_lem (suc i) w ws)
+  where
+    n : ℕ
+    n = position_or_len (λ y. same_numbers w y.now) ws
 
-  module _ (na : a ≡ false) (b : Bool) (eb : b ≡ same_numbers w q) where
-    pub second : b ≡ true → place_of 0 w (p ∷ q ∷ r ∷ s ∷ []) ≡ below 4 1
-    unfolding place_of below
-    second tb = rw (← ea, na, ← eb, tb)
+    more : (c : Bool) → ltb n (length ws) ≡ c → cond c (some (suc i + n)) none ≡ cond (ltb (1 + n) (suc (length ws))) (some (i + (1 + n))) none
+    more true t = let z : suc i + n ≡ i + (1 + n) = omega arith in rw (lt-ltb (1 + n) (suc (length ws)) (omega (arith, ltb-true n (length ws) t)), z)
+    more false t = rw (le-ltb (1 + n) (suc (length ws)) (omega (arith, ltb-false n (length ws) t)))
 
-    module _ (nb : b ≡ false) (c : Bool) (ec : c ≡ same_numbers w r) where
-      pub third : c ≡ true → place_of 0 w (p ∷ q ∷ r ∷ s ∷ []) ≡ below 4 2
-      unfolding place_of below
-      third tc = rw (← ea, na, ← eb, nb, ← ec, tc)
+    go : (c : Bool) → place_of (suc i) w (map (λ y. y.now) ws) ≡ cond (ltb n (length ws)) (some (suc i + n)) none
+        → cond c (some i) (place_of (suc i) w (map (λ y. y.now) ws)) ≡ cond (ltb (cond (not c) (1 + n) 0) (suc (length ws))) (some (i + cond (not c) (1 + n) 0)) none
+    go true h = let z : i + 0 ≡ i = omega arith in rw (lt-ltb 0 (suc (length ws)) (omega arith), z)
+    go false h = h ∙ more (ltb n (length ws)) refl
 
-      module _ (nc : c ≡ false) (d : Bool) (ed : d ≡ same_numbers w s) where
-        pub fourth : d ≡ true → place_of 0 w (p ∷ q ∷ r ∷ s ∷ []) ≡ below 4 3
-        unfolding place_of below
-        fourth td = rw (← ea, na, ← eb, nb, ← ec, nc, ← ed, td)
+module _ (w : List ℕ) (ws : List (Bor (List ℕ))) (r : Option ℕ)
+    (e : r ≡ cond (ltb (position_or_len (λ x. same_numbers w x.now) ws) (length ws)) (Some (position_or_len (λ x. same_numbers w x.now) ws)) None) where
+  -- the answer of `position` is the place
+  pub place_said : said r ≡ place_of 0 w (map (λ x. x.now) ws)
+  unfolding said
+  place_said = rw (e, place_lem 0 w ws) (go (ltb n (length ws)))
+    where
+      n : ℕ
+      n = position_or_len (λ x. same_numbers w x.now) ws
 
-        pub no_place : d ≡ false → place_of 0 w (p ∷ q ∷ r ∷ s ∷ []) ≡ below 4 4
-        unfolding place_of below
-        no_place nd = rw (← ea, na, ← eb, nb, ← ec, nc, ← ed, nd)
+      go : (c : Bool) → said (cond c (Some n) None) ≡ cond c (some (0 + n)) none
+      go true = let z : 0 + n ≡ n = omega arith in rw z
+      go false = refl
 
 -- a kind, and a vertex, by the place of its word
-pub kind_at_place : (w : List ℕ) (k : ℕ) → place_of 0 w (plain "above" ∷ plain "left" ∷ plain "below" ∷ plain "right" ∷ []) ≡ below 4 k → k ≤ 4
-    → (below 4 k ≡ kind_of_word w) × (k ≤ 4)
+pub kind_said : (w : List ℕ) (x : Maybe ℕ) → x ≡ place_of 0 w (plain "above" ∷ plain "left" ∷ plain "below" ∷ plain "right" ∷ []) → x ≡ kind_of_word w
 unfolding kind_of_word side_words
-kind_at_place w k e h = (sym e, h)
+kind_said w x e = e
 
-module _ (w : List ℕ) (k : ℕ) (e : place_of 0 w (plain "N" ∷ plain "W" ∷ plain "S" ∷ plain "E" ∷ []) ≡ below 4 k) where
-  pub frame_at_place : k < 4 → (below 256 k ≡ vertex_of_word w) × (k ≤ 256)
-  unfolding vertex_of_word frame_words or_else below
-  frame_at_place h = (rw (e, lt-ltb k 4 h, lt-ltb k 256 (omega arith)), omega arith)
-
-  pub room_by_number : (r : ℕ) → 4 ≤ k → (below 256 r ≡ a_byte (number_of w)) × (r ≤ 256) → (below 256 r ≡ vertex_of_word w) × (r ≤ 256)
-  unfolding vertex_of_word frame_words or_else below
-  room_by_number r h p = rw (e, le-ltb k 4 h) p
+pub vertex_said : (w : List ℕ) (o q r : Option ℕ) → said o ≡ place_of 0 w (plain "N" ∷ plain "W" ∷ plain "S" ∷ plain "E" ∷ []) → said q ≡ a_byte (number_of w)
+    → r ≡ option_or o q → said r ≡ vertex_of_word w
+unfolding vertex_of_word frame_words or_else said
+vertex_said w None q r e h f = rw (f, ← e) h
+vertex_said w (Some n) q r e h f = rw (f, ← e)

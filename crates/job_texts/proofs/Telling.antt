@@ -19,10 +19,10 @@ pub lack_told : (l k : Lack) {o x : List ℕ} {at r : ℕ} → l ≡ k → Puts 
 lack_told l k e p = rw e p
 
 -- a room's number
-pub room_told : (l : Lack) (n : ℕ) {o x y : List ℕ} {at m r : ℕ} → l ≡ RoomNumber n → Puts o at (plain "the number of room ") x m → Puts x m (decimal n) y r
+pub room_told : (l : Lack) (n d : ℕ) {o x y : List ℕ} {at m r : ℕ} → l ≡ RoomNumber n → d ≡ n → Puts o at (plain "the number of room ") x m → Puts x m (decimal d) y r
     → Puts o at (expected_text (lack_of l)) y r
 unfolding expected_text lack_of
-room_told l n e p q = rw e (both_puts _ _ _ _ _ _ _ _ p q)
+room_told l n d e f p q = rw (e, ← f) (both_puts _ _ _ _ _ _ _ _ p q)
 
 -- the whole line
 pub line_told : (n : ℕ) (x : Expected) {o p q s t u : List ℕ} {a b c d r : ℕ} → Puts o 0 (plain "line ") p a → Puts p a (decimal n) q b

@@ -1,129 +1,68 @@
 // The line of a room, read and held behind the rooms that are held already.
-ghost use Rattle.std.specs.Prelude.{◌≡◌, ◌+◌, ◌-◌, ◌≤◌, ◌<◌, drop};
+ghost use Rattle.std.specs.Prelude.{◌≡◌, ◌+◌, ◌-◌, ◌<◌, IfOk};
 ghost use Rattle.floor.specs.JobTexts.{skip, uncommented, behind_number, room_line};
-ghost use Rattle.stars.specs.Sized.{size};
-ghost use Rattle.job_texts.specs.Reads.{close_at, put_size, close_put, put_contacts, put_line, on_line, row_of, lined_of};
+ghost use Rattle.job_texts.specs.Reads.{put_size, put_contacts, put_line, on_line, told_size, row_of, lined_of};
 
-use crate::{Lack, Lined, Rooms, Row, Verdict, contacts, values, words};
-use stars::Stars;
-
-// One star more, whose entries end at a place.
-fn closed(held: Stars, k: usize) -> Stars
-    requires { (held.count < 60) × (k ≤ 360) }
-    ensures { result ≡ close_at held k }
-{
-    let n = held.count;
-    let last = fields::wide(n);
-    let mut more = held;
-    more.ends[last] = k as u16;
-    more.count = n + 1;
-    more
-}
+use crate::entries::Held;
+use crate::{Lack, Measure, Rooms, Row, contacts, values, words};
 
 // A list of sizes with that of a room, the i-th from the first, put.
-fn with_size(held: [u8; 120], i: usize, wide: u8, tall: u8) -> [u8; 120]
+#[tactic(auto, unfolding(crate::specs::Reads::put_size))]
+fn with_size(mut list: [u8; 120], i: usize, size: Measure) -> [u8; 120]
     requires { i < 60 }
-    ensures { result ≡ put_size held i (size wide tall) }
+    ensures { result ≡ put_size list i (told_size size) }
 {
-    let mut list = held;
-    list[2 * i] = wide;
-    list[2 * i + 1] = tall;
+    list[2 * i] = size.wide;
+    list[2 * i + 1] = size.tall;
     list
 }
 
-// A wrong line: what it lacks, and the rooms before it.
-fn wrong_line(lack: Lack, next: usize, rooms: Rooms) -> Lined
-    ensures { (result.verdict ≡ Verdict.Wrong lack) × (result.next ≡ next) × (result.rooms ≡ rooms) }
-{
-    Lined {
-        verdict: Verdict::Wrong(lack),
-        next,
-        rooms,
-    }
-}
-
-// A line that is right, and the rooms with it.
-fn right_line(next: usize, rooms: Rooms) -> Lined
-    ensures { (result.verdict ≡ Verdict.Right) × (result.next ≡ next) × (result.rooms ≡ rooms) }
-{
-    Lined {
-        verdict: Verdict::Right,
-        next,
-        rooms,
-    }
-}
-
-// The rooms with one more, whose contacts are put, where they are right.
-fn closed_row(row: Row, held: Rooms) -> Lined
-    requires { (row.stars.count < 60) × (row.next ≤ 360) }
-    ensures { (lined_of result ≡ close_put held.list (row_of row)) × (result.next ≤ 360) }
-{
-    let verdict = row.verdict;
-    let next = row.next;
-    match verdict {
-        Verdict::Wrong(lack) => wrong_line(lack, next, held),
-        Verdict::Right => {
-            let stars = row.stars;
-            let last = fields::wide(stars.count);
-            let list = held.list;
-            let longer = with_size(list, last, row.wide, row.tall);
-            let more = closed(stars, next);
-            right_line(
-                next,
-                Rooms {
-                    stars: more,
-                    list: longer,
-                },
-            )
-        }
-    }
-}
-
 // What stands behind a room's number: a colon, and the contacts.
-fn behind_number(line: &[u8], at: usize, held: Stars, m: usize) -> Row
-    requires { m ≤ 360 }
-    ensures { (row_of result ≡ put_contacts held m (behind_number (360 - m) (drop at line.now))) × (result.next ≤ 360) × (result.stars.count ≡ held.count) }
+fn behind_number(text: &[u8], held: Held) -> Result<Row, Lack>
+    ensures { (row_of result ≡ put_contacts held (behind_number (360 - held.next) text.now)) × IfOk result (λ r. r.held.stars.count ≡ held.stars.count) }
 {
-    if line.len() <= at {
-        return contacts::wrong(Lack::Colon, m, held);
+    let Some((mark, behind)) = text.split_first() else {
+        return Err(Lack::Colon);
+    };
+    if *mark != b':' {
+        return Err(Lack::Colon);
     }
-    if line[at] != b':' {
-        return contacts::wrong(Lack::Colon, m, held);
+    let first = words::skip(behind);
+    if first.is_empty() {
+        return Ok(Row {
+            held,
+            size: Measure::ONE,
+        });
     }
-    let first = words::skip_at(line, at + 1);
-    if line.len() <= first {
-        return contacts::right(m, held, 1, 1);
-    }
-    contacts::hold_contacts(line, first, held, m)
+    contacts::hold_contacts(first, held)
 }
 
-// The line of the next room, no blanks in front.
-fn room_row(line: &[u8], held: Rooms, m: usize) -> Lined
-    requires { m ≤ 360 }
-    ensures { (lined_of result ≡ put_line held m (room_line (360 - m) (4 + held.stars.count) line.now)) × (result.next ≤ 360) }
+// The rooms with that of a line, no blanks in front, which is the next room's.
+fn room_row(line: &[u8], rooms: Rooms) -> Result<Rooms, Lack>
+    ensures { lined_of result ≡ put_line rooms (room_line (360 - rooms.held.next) (4 + rooms.held.stars.count) line.now) }
 {
-    let stars = held.stars;
-    let n = fields::wide(stars.count);
+    let n = rooms.held.stars.count;
     if 60 <= n {
-        return wrong_line(Lack::NoRoom, m, held);
+        return Err(Lack::NoRoom);
     }
-    let number = values::number_of(words::word_at(line, 0));
-    if number != 4 + n {
-        return wrong_line(Lack::RoomNumber(4 + n), m, held);
+    if values::number_of(words::word(line)) != Some(4 + n) {
+        return Err(Lack::RoomNumber(4 + n));
     }
-    let at = words::next_at(line, 0);
-    let row = behind_number(line, at, stars, m);
-    closed_row(row, held)
+    let row = behind_number(words::next(line), rooms.held)?;
+    Ok(Rooms {
+        held: row.held.closed(),
+        list: with_size(rooms.list, usize::from(n), row.size),
+    })
 }
 
-// A line as it stands in a text: a room's, or one with nothing on it, which does not count.
-pub fn line_row(line: &[u8], held: Rooms, m: usize) -> Lined
-    requires { m ≤ 360 }
-    ensures { (lined_of result ≡ on_line held m (skip (uncommented line.now))) × (result.next ≤ 360) }
+// The rooms with that of a line as it stands in a text: a room's, or one with nothing on it, which does not count.
+#[tactic(auto, using(crate::proofs::RoomLines::line_nothing, crate::proofs::RoomLines::line_room))]
+pub fn line_row(line: &[u8], rooms: Rooms) -> Result<Rooms, Lack>
+    ensures { lined_of result ≡ on_line rooms (skip (uncommented line.now)) }
 {
     let bare = words::bare(line);
-    if bare.len() == 0 {
-        return right_line(m, held);
+    if bare.is_empty() {
+        return Ok(rooms);
     }
-    room_row(bare, held, m)
+    room_row(bare, rooms)
 }

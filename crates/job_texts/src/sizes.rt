@@ -1,48 +1,43 @@
 // A least size, read: `at least`, a width, `by` and a height, and the end of the line.
-ghost use Rattle.std.specs.Prelude.{◌≡◌, drop};
+ghost use Rattle.std.specs.Prelude.{◌≡◌};
 ghost use Rattle.floor.specs.JobTexts.{size_at};
 ghost use Rattle.job_texts.specs.Reads.{size_begins, size_words, measured};
 
 use crate::{Measure, values, words};
 
-// Whether a least size begins at a place: `at` stands there.
-pub fn begins(line: &[u8], at: usize) -> bool
-    ensures { result ≡ size_begins (drop at line.now) }
+// Whether a least size begins a text: `at` stands in front.
+#[tactic(auto, using(crate::proofs::Pieces::size_begins_lem), unfolding(floor::specs::Quoted::plain))]
+pub fn begins(text: &[u8]) -> bool
+    ensures { result ≡ size_begins text.now }
 {
-    fields::same_bytes(words::word_at(line, at), b"at")
+    words::same(words::word(text), b"at")
 }
 
-// Whether `least`, some word, `by` and some word stand at a place, and nothing behind them.
-fn words_stand(line: &[u8], at: usize) -> bool
-    ensures { result ≡ size_words (drop at line.now) }
+// Whether `least`, some word, `by` and some word stand in front, and nothing behind them.
+#[tactic(auto, using(crate::proofs::Pieces::no_least, crate::proofs::Pieces::no_by, crate::proofs::Pieces::by_end), unfolding(floor::specs::Quoted::plain))]
+fn words_stand(text: &[u8]) -> bool
+    ensures { result ≡ size_words text.now }
 {
-    if !fields::same_bytes(words::word_at(line, at), b"least") {
+    if !words::same(words::word(text), b"least") {
         return false;
     }
-    let third = words::next_at(line, words::next_at(line, at));
-    if !fields::same_bytes(words::word_at(line, third), b"by") {
+    let third = words::next(words::next(text));
+    if !words::same(words::word(third), b"by") {
         return false;
     }
-    let end = words::next_at(line, words::next_at(line, third));
-    line.len() <= end
+    words::next(words::next(third)).is_empty()
 }
 
-// The least size that stands at a place, behind `at`.
-pub fn size_at(line: &[u8], at: usize) -> Measure
-    ensures { measured result ≡ size_at (drop at line.now) }
+// The least size that a text says, behind `at`, if it says one.
+pub fn size_in(text: &[u8]) -> Option<Measure>
+    ensures { measured result ≡ size_at text.now }
 {
-    if !words_stand(line, at) {
-        return Measure::Unsaid;
+    if !words_stand(text) {
+        return None;
     }
-    let second = words::next_at(line, at);
-    let wide = values::number_of(words::word_at(line, second));
-    if 256 <= wide {
-        return Measure::Unsaid;
-    }
-    let fourth = words::next_at(line, words::next_at(line, second));
-    let tall = values::number_of(words::word_at(line, fourth));
-    if 256 <= tall {
-        return Measure::Unsaid;
-    }
-    Measure::Said(wide as u8, tall as u8)
+    let second = words::next(text);
+    let wide = values::number_of(words::word(second))?;
+    let fourth = words::next(words::next(second));
+    let tall = values::number_of(words::word(fourth))?;
+    Some(Measure { wide, tall })
 }

@@ -1,74 +1,53 @@
 // What a word says: a kind, a number or a vertex.
-ghost use Rattle.std.specs.Prelude.{◌≡◌, List, ◌∷◌, ℕ, ◌≤◌};
-ghost use Rattle.floor.specs.JobTexts.{digits_on, number_of, kind_of_word, a_byte, vertex_of_word};
-ghost use Rattle.job_texts.specs.Reads.{below};
+ghost use Rattle.std.specs.Prelude.{◌≡◌, List, ◌∷◌, ℕ, map};
+ghost use Rattle.floor.specs.JobTexts.{digits_on, number_of, place_of, kind_of_word, a_byte, vertex_of_word};
+ghost use Rattle.job_texts.specs.Reads.{said, said_on};
 
-// A number with a digit more; 256 for all that is no number below 256.
-fn with_digit(n: usize, b: u8) -> usize
-    requires { n ≤ 256 }
-    ensures { ((t : List ℕ) → a_byte (digits_on result t) ≡ a_byte (digits_on n (b ∷ t))) × (result ≤ 256) }
+use crate::words;
+
+// A number with a digit more, where the byte is a digit and a byte still holds the number.
+fn with_digit(n: u8, b: u8) -> Option<u8>
+    ensures { (t : List ℕ) → said_on result t ≡ a_byte (digits_on n (b ∷ t)) }
 {
-    let digit = fields::wide(b);
-    if digit < 48 {
-        return 256;
+    if !b.is_ascii_digit() {
+        return None;
     }
-    if 57 < digit {
-        return 256;
-    }
-    let more = 10 * n + (digit - 48);
-    if more < 256 { more } else { 256 }
+    u8::try_from(10 * u16::from(n) + u16::from(b - b'0')).ok()
 }
 
-// The number that a word says, below 256; else 256.
-pub fn number_of(word: &[u8]) -> usize
-    ensures { (below 256 result ≡ a_byte (number_of word.now)) × (result ≤ 256) }
+// The number that a word says, if it is one that a byte holds.
+#[tactic(auto, using(crate::proofs::Said::no_number, crate::proofs::Said::number_first, crate::proofs::Said::number_next, crate::proofs::Said::number_stops, crate::proofs::Said::number_done))]
+pub fn number_of(word: &[u8]) -> Option<u8>
+    ensures { said result ≡ a_byte (number_of word.now) }
 {
-    if word.len() == 0 {
-        return 256;
+    if word.is_empty() {
+        return None;
     }
-    let mut n: usize = 0;
-    let mut i: usize = 0;
-    while i < word.len() {
-        n = with_digit(n, word[i]);
-        i += 1;
+    let mut n: u8 = 0;
+    for b in word {
+        n = with_digit(n, *b)?;
     }
-    n
+    Some(n)
 }
 
-// The kind that a word says, below 4; else 4.
-pub fn kind_of_word(word: &[u8]) -> usize
-    ensures { (below 4 result ≡ kind_of_word word.now) × (result ≤ 4) }
+// The place at which a word stands among four, if it does.
+fn place_of(word: &[u8], words: [&[u8]; 4]) -> Option<u8>
+    ensures { said result ≡ place_of 0 word.now (map (λ w. w.now) words.entry) }
 {
-    if fields::same_bytes(word, b"above") {
-        return 0;
-    }
-    if fields::same_bytes(word, b"left") {
-        return 1;
-    }
-    if fields::same_bytes(word, b"below") {
-        return 2;
-    }
-    if fields::same_bytes(word, b"right") {
-        return 3;
-    }
-    4
+    let place = words.iter().position(|w| words::same(word, w))?;
+    Some(place as u8)
 }
 
-// The vertex that a word says, below 256; else 256.
-pub fn vertex_of_word(word: &[u8]) -> usize
-    ensures { (below 256 result ≡ vertex_of_word word.now) × (result ≤ 256) }
+// The kind that a word says, if it is a side.
+pub fn kind_of_word(word: &[u8]) -> Option<u8>
+    ensures { said result ≡ kind_of_word word.now }
 {
-    if fields::same_bytes(word, b"N") {
-        return 0;
-    }
-    if fields::same_bytes(word, b"W") {
-        return 1;
-    }
-    if fields::same_bytes(word, b"S") {
-        return 2;
-    }
-    if fields::same_bytes(word, b"E") {
-        return 3;
-    }
-    number_of(word)
+    place_of(word, [b"above", b"left", b"below", b"right"])
+}
+
+// The vertex that a word says, if it does: a frame side by its letter, or a room by its number.
+pub fn vertex_of_word(word: &[u8]) -> Option<u8>
+    ensures { said result ≡ vertex_of_word word.now }
+{
+    place_of(word, [b"N", b"W", b"S", b"E"]).or(number_of(word))
 }

@@ -4,84 +4,74 @@ ghost use Rattle.floor.specs.JobTexts.{lines, read_lines, told_sizes, read_text}
 ghost use Rattle.stars.specs.Sized.{sizes_in};
 ghost use Rattle.job_texts.specs.Reads.{no_rooms, finish, gathered_of, taken_of};
 
-use crate::{Gathered, Lack, Rooms, Taken, Verdict, rows, words};
+use crate::entries::Held;
+use crate::{Lack, Rooms, Slip, rows};
+use jobs::Job;
+use stars::Sizes;
+use stars::least::Least;
 
 // No rooms.
+#[tactic(auto, using(crate::proofs::AllLines::none_yet))]
 fn no_rooms() -> Rooms
     ensures { result ≡ no_rooms }
 {
-    let stars = stars::held::none_held();
-    let sizes = stars::least::none_told();
-    let list = sizes.list;
-    Rooms { stars, list }
+    Rooms {
+        held: Held {
+            stars: stars::held::none_held(),
+            next: 0,
+        },
+        list: [0; 120],
+    }
 }
 
 // The lines of a text, read: the rooms, or the first wrong line and what should have stood there.
-fn read_lines(text: &[u8]) -> Gathered
+fn read_lines(text: &[u8]) -> Result<Rooms, Slip>
     requires { length text.now ≤ 16384 }
-    ensures { gathered_of result ≡ finish no_rooms 0 (read_lines 0 4 360 (lines text.now)) }
+    ensures { gathered_of result ≡ finish no_rooms (read_lines 0 4 360 (lines text.now)) }
 {
-    let mut held = no_rooms();
-    let mut m: usize = 0;
-    let mut at: usize = 0;
-    let mut i: usize = 0;
-    while at <= text.len() {
-        let end = words::find(text, at, b'\n');
-        let row = rows::line_row(&text[at..end], held, m);
-        i += 1;
-        at = end + 1;
-        let verdict = row.verdict;
-        let Verdict::Right = verdict else {
-            return Gathered {
-                verdict,
-                line: i,
-                rooms: held,
-            };
-        };
-        let more = row.rooms;
-        held = more;
-        m = row.next;
-    }
-    let stars = held.stars;
-    if stars.count == 0 {
-        return Gathered {
-            verdict: Verdict::Wrong(Lack::RoomNumber(4)),
-            line: i,
-            rooms: held,
+    let mut rooms = no_rooms();
+    let mut line: usize = 0;
+    for bytes in text.split(|b| *b == b'\n') {
+        // Counted by hand: behind the last line its number is told too.
+        line += 1;
+        rooms = match rows::line_row(bytes, rooms) {
+            Ok(more) => more,
+            Err(lack) => return Err(Slip { line, lack }),
         };
     }
-    Gathered {
-        verdict: Verdict::Right,
-        line: i,
-        rooms: held,
+    if rooms.held.stars.count == 0 {
+        return Err(Slip {
+            line,
+            lack: Lack::RoomNumber(4),
+        });
     }
+    Ok(rooms)
 }
 
 // Of how many rooms the sizes are told: of all, or of none where every one is 1 by 1.
+#[tactic(auto, using(crate::proofs::AllLines::all_told, crate::proofs::AllLines::none_told))]
 fn told_of(count: u8, list: &[u8]) -> u8
     ensures { sizes_in result list.now ≡ told_sizes (sizes_in count list.now) }
 {
-    if stars::least::some_larger(count, list) {
-        return count;
-    }
-    0
+    let sizes = Least {
+        told: usize::from(count),
+        list,
+    };
+    if sizes.some_larger() { count } else { 0 }
 }
 
 // A text, read: the rooms and the sizes that are told of them, or the first wrong line and what should have stood there.
-pub fn read_text(text: &[u8]) -> Taken
+pub fn read_text(text: &[u8]) -> Result<Job, Slip>
     requires { length text.now ≤ 16384 }
     ensures { taken_of result ≡ read_text text.now }
 {
-    let read = read_lines(text);
-    let verdict = read.verdict;
-    let rooms = read.rooms;
-    let stars = rooms.stars;
-    let list = rooms.list;
-    let told = told_of(stars.count, &list);
-    Taken {
-        verdict,
-        line: read.line,
-        rooms,
-        told,
-    }
+    let rooms = read_lines(text)?;
+    let told = told_of(rooms.held.stars.count, &rooms.list);
+    Ok(Job {
+        stars: rooms.held.stars,
+        sizes: Sizes {
+            told,
+            list: rooms.list,
+        },
+    })
 }

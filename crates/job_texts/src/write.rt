@@ -4,33 +4,32 @@ ghost use Rattle.std.proofs.lemmas.List.Edits.{sets};
 ghost use Rattle.floor.specs.Jobs.{sized_job, size_of, test2, test3, reads};
 ghost use Rattle.floor.specs.Jobs.Written.{Counts};
 ghost use Rattle.floor.specs.JobTexts.{vertex_word, contact_text, contacts_text, size_text, size_behind, room_text, job_text, texted, text_answer};
-ghost use Rattle.stars.specs.Pairs.{pair};
-ghost use Rattle.stars.specs.Held.{cells, held_star, job_of};
-ghost use Rattle.stars.specs.Sized.{size, sizes_in, sizes_of};
+ghost use Rattle.stars.specs.Held.{entry_at, cells, held_star, job_held};
+ghost use Rattle.stars.specs.Sized.{sizes_lent};
 ghost use Rattle.letters.specs.Puts.{Puts};
+ghost use Rattle.job_texts.specs.Reads.{told_size};
 ghost use Rattle.job_texts.specs.Writes.{side_text, more_text};
 
-use stars::{Sizes, Stars};
+use crate::Measure;
+use refusals::Refusal;
+use stars::held::Held;
+use stars::least::Least;
 
 const FRAME: [u8; 4] = [b'N', b'W', b'S', b'E'];
 
 // A kind by its side, a blank before and behind it; of a number that is no kind the blanks alone.
+// Not an enum: held stars have any byte as a kind, and refusal 4 is of those over 3.
+#[tactic(auto, using(crate::proofs::Put::side_put, crate::proofs::Put::side_none), unfolding(crate::specs::Writes::side_text, floor::specs::JobTexts::side_word, floor::specs::JobTexts::side_words, floor::specs::Quoted::plain))]
 fn put_side(out: &mut [u8], at: usize, kind: u8) -> usize
     ensures { Puts out.old at (side_text kind) out.new result }
 {
-    if kind == 0 {
-        return letters::word::put_word(out, at, b" above ");
+    match kind {
+        0 => letters::word::put_word(out, at, b" above "),
+        1 => letters::word::put_word(out, at, b" left "),
+        2 => letters::word::put_word(out, at, b" below "),
+        3 => letters::word::put_word(out, at, b" right "),
+        _ => letters::word::put_word(out, at, b"  "),
     }
-    if kind == 1 {
-        return letters::word::put_word(out, at, b" left ");
-    }
-    if kind == 2 {
-        return letters::word::put_word(out, at, b" below ");
-    }
-    if kind == 3 {
-        return letters::word::put_word(out, at, b" right ");
-    }
-    letters::word::put_word(out, at, b"  ")
 }
 
 // A vertex: a frame side by its letter, a room by its number.
@@ -43,141 +42,104 @@ fn put_vertex(out: &mut [u8], at: usize, v: usize) -> usize
     letters::number::put_decimal(out, at, v)
 }
 
-// A contact.
-fn put_contact(out: &mut [u8], at: usize, v: usize, kind: u8) -> usize
-    ensures { Puts out.old at (contact_text (pair v kind)) out.new result }
+// The contact at a place.
+fn put_contact(out: &mut [u8], at: usize, stars: &Held, k: usize) -> usize
+    ensures { Puts out.old at (contact_text (entry_at stars.now.nbr.now stars.now.kind.now k)) out.new result }
 {
-    let next = put_side(out, at, kind);
-    put_vertex(out, next, v)
+    let next = put_side(out, at, stars.kind_at(k));
+    put_vertex(out, next, stars.to_at(k))
 }
 
 // The contacts from a place to an end, a comma before each.
-fn put_more<'a>(
-    out: &mut [u8],
-    at: usize,
-    nbr: &'a [u16],
-    kind: &'a [u8],
-    from: usize,
-    end: usize,
-) -> usize
-    ensures { Puts out.old at (more_text (cells (end - from) from nbr.now kind.now)) out.new result }
+fn put_more(out: &mut [u8], at: usize, stars: &Held, from: usize, end: usize) -> usize
+    ensures { Puts out.old at (more_text (cells (end - from) from stars.now.nbr.now stars.now.kind.now)) out.new result }
 {
     let mut next = at;
-    let mut k = from;
-    while k < end {
+    for k in from..end {
         let first = letters::word::put_byte(out, next, b',');
-        let v = stars::held::to_at(nbr, k);
-        let side = stars::held::kind_at(kind, k);
-        next = put_contact(out, first, v, side);
-        k += 1;
+        next = put_contact(out, first, stars, k);
     }
     next
 }
 
 // The contacts from a place to an end, commas between.
-fn put_contacts<'a>(
-    out: &mut [u8],
-    at: usize,
-    nbr: &'a [u16],
-    kind: &'a [u8],
-    from: usize,
-    end: usize,
-) -> usize
-    ensures { Puts out.old at (contacts_text (cells (end - from) from nbr.now kind.now)) out.new result }
+fn put_contacts(out: &mut [u8], at: usize, stars: &Held, from: usize, end: usize) -> usize
+    ensures { Puts out.old at (contacts_text (cells (end - from) from stars.now.nbr.now stars.now.kind.now)) out.new result }
 {
     if end <= from {
         return at;
     }
-    let v = stars::held::to_at(nbr, from);
-    let side = stars::held::kind_at(kind, from);
-    let next = put_contact(out, at, v, side);
-    put_more(out, next, nbr, kind, from + 1, end)
+    let next = put_contact(out, at, stars, from);
+    put_more(out, next, stars, from + 1, end)
 }
 
 // A least size, width by height.
-fn put_size(out: &mut [u8], at: usize, wide: u8, tall: u8) -> usize
-    ensures { Puts out.old at (size_text (size wide tall)) out.new result }
+fn put_size(out: &mut [u8], at: usize, size: Measure) -> usize
+    ensures { Puts out.old at (size_text (told_size size)) out.new result }
 {
     let first = letters::word::put_word(out, at, b" at least ");
-    let second = letters::number::put_decimal(out, first, fields::wide(wide));
+    let second = letters::number::put_decimal(out, first, usize::from(size.wide));
     let third = letters::word::put_word(out, second, b" by ");
-    letters::number::put_decimal(out, third, fields::wide(tall))
+    letters::number::put_decimal(out, third, usize::from(size.tall))
 }
 
 // A least size behind the contacts from a place to an end, left out where it is 1 by 1.
-fn put_behind(out: &mut [u8], at: usize, from: usize, end: usize, wide: u8, tall: u8) -> usize
-    ensures { (nbr kind : List ℕ) → Puts out.old at (size_behind (cells (end - from) from nbr kind) (size wide tall)) out.new result }
+fn put_behind(out: &mut [u8], at: usize, from: usize, end: usize, size: Measure) -> usize
+    ensures { (nbr kind : List ℕ) → Puts out.old at (size_behind (cells (end - from) from nbr kind) (told_size size)) out.new result }
 {
-    if !stars::least::is_larger(wide, tall) {
+    if !stars::least::is_larger(size.wide, size.tall) {
         return at;
     }
     if end <= from {
-        return put_size(out, at, wide, tall);
+        return put_size(out, at, size);
     }
     let next = letters::word::put_byte(out, at, b',');
-    put_size(out, next, wide, tall)
+    put_size(out, next, size)
 }
 
 // The line of a room.
-fn put_room<'a>(
-    out: &mut [u8],
-    at: usize,
-    ends: &'a [u16],
-    nbr: &'a [u16],
-    kind: &'a [u8],
-    told: u8,
-    sizes: &'a [u8],
-    i: usize,
-) -> usize
+fn put_room(out: &mut [u8], at: usize, stars: &Held, sizes: &Least, i: usize) -> usize
     requires { i < 256 }
     ensures { Puts out.old at
-        (room_text (4 + i) (held_star ends.now nbr.now kind.now i) (size_of (sizes_in told sizes.now) (4 + i)))
+        (room_text (4 + i) (held_star stars.now.ends.now stars.now.nbr.now stars.now.kind.now i) (size_of (sizes_lent sizes.now) (4 + i)))
         out.new result }
 {
-    let from = stars::held::start_of(ends, nbr.len(), i);
-    let end = stars::held::end_of(ends, nbr.len(), i);
-    let wide = stars::least::width_of(told, sizes, i);
-    let tall = stars::least::height_of(told, sizes, i);
+    let from = stars.start_of(i);
+    let end = stars.end_of(i);
+    let size = Measure {
+        wide: sizes.width_of(i),
+        tall: sizes.height_of(i),
+    };
     let first = letters::line::put_then(out, at, 4 + i, b':');
-    let next = put_contacts(out, first, nbr, kind, from, end);
-    let last = put_behind(out, next, from, end, wide, tall);
+    let next = put_contacts(out, first, stars, from, end);
+    let last = put_behind(out, next, from, end, size);
     letters::word::put_byte(out, last, b'\n')
 }
 
 // The lines of all rooms, at the front.
-fn put_rooms(stars: Stars, sizes: Sizes, out: &mut [u8]) -> usize
-    ensures { Puts out.old 0 (job_text (sized_job (job_of stars) (sizes_of sizes))) out.new result }
+fn put_rooms(stars: &Held, sizes: &Least, out: &mut [u8]) -> usize
+    requires { stars.now.count < 256 }
+    ensures { Puts out.old 0 (job_text (sized_job (job_held stars.now) (sizes_lent sizes.now))) out.new result }
 {
-    let count = fields::wide(stars.count);
     let mut next: usize = 0;
-    let mut i: usize = 0;
-    while i < count {
-        next = put_room(
-            out,
-            next,
-            &stars.ends,
-            &stars.nbr,
-            &stars.kind,
-            sizes.told,
-            &sizes.list,
-            i,
-        );
-        i += 1;
+    for i in 0..stars.count {
+        next = put_room(out, next, stars, sizes, i);
     }
     next
 }
 
 // The text of a held job; or refusal 4 where a kind is no side, or 17 where the sizes do not pass.
-pub fn put_job(stars: Stars, sizes: Sizes, out: &mut [u8; 8192]) -> usize
-    requires { (test2 (length (job_of stars)) ≡ true) × (test3 (job_of stars) ≡ true) × Counts (length (job_of stars)) (sizes_of sizes) }
-    ensures { (result ≡ length (text_answer (texted (reads (sized_job (job_of stars) (sizes_of sizes))))))
-        × (out.new ≡ sets out.old 0 (text_answer (texted (reads (sized_job (job_of stars) (sizes_of sizes)))))) × (result ≤ 8192) }
+pub fn put_job(stars: &Held, sizes: &Least, out: &mut [u8; 8192]) -> usize
+    requires few { stars.now.count < 256 }
+    requires passed { (test2 (length (job_held stars.now)) ≡ true) × (test3 (job_held stars.now) ≡ true) × Counts (length (job_held stars.now)) (sizes_lent sizes.now) }
+    ensures { (result ≡ length (text_answer (texted (reads (sized_job (job_held stars.now) (sizes_lent sizes.now))))))
+        × (out.new ≡ sets out.old 0 (text_answer (texted (reads (sized_job (job_held stars.now) (sizes_lent sizes.now)))))) × (result ≤ 8192) }
 {
     if !crate::sided::all_sided(stars) {
-        return letters::line::put_refusal(out, 0, 4);
+        return letters::line::put_refusal(out, 0, Refusal::WrongEntry.number());
     }
-    if !stars::least::sizes_pass(sizes.told, &sizes.list) {
-        return letters::line::put_refusal(out, 0, 17);
+    if !sizes.sizes_pass() {
+        return letters::line::put_refusal(out, 0, Refusal::WrongSizes.number());
     }
     put_rooms(stars, sizes, out)
 }

@@ -1,10 +1,10 @@
 -- The stars and the sizes put one behind the other, as the code comes by them. Assumes nothing.
 use Prim.Native.Nat.{ℕ, suc, ◌+◌, ◌-◌, ◌*◌, ◌/◌, ◌<◌, ◌≤◌}
 use mathlib.Core.Path.{◌≡◌}
-use mathlib.Core.List.{List, map}
+use mathlib.Core.List.{List, ◌∷◌, map}
 use native.Mathlib.Omega.{arith}
-use lib.ListN.{length, get_or, drop, set, length-replicate}
-use lib.Seq.{sets}
+use lib.ListN.{length, get_or, drop, set, length-drop, length-replicate}
+use lib.Seq.{sets, drop-cons}
 use Rattle.floor.specs.Lists.{sum}
 use Rattle.floor.specs.Fields.{read_field, value_of, rest_of}
 use Rattle.floor.specs.Jobs.{Entry, pairs_in, entries, size_pairs, size_bytes}
@@ -12,26 +12,36 @@ use Rattle.stars.specs.declared.Stars.{Stars}
 use Rattle.stars.specs.declared.Sizes.{Sizes as HeldSizes}
 use Rattle.stars.specs.Held.{to_of, kind_of, no_stars, put_star, put_all, held_of}
 use Rattle.stars.specs.Sized.{no_sizes, held_sizes}
-use Rattle.stars.specs.Pairs.{here}
-use Rattle.stars.proofs.Entries.{entries_more, entries_done}
+use Rattle.stars.specs.Pairs.{pair}
+use Rattle.stars.proofs.Entries.{entries_done}
 use Rattle.stars.proofs.Sized.{pairs_more, pairs_done, pairs_length}
 use Rattle.jobs.specs.Shapes.{stars_at, sizes_at}
 use Rattle.jobs.proofs.Outlines.{entries_length}
 use Rattle.jobs.proofs.Walks.{next_star, no_star, behind}
 
+-- the entries from a place on: the one there, and those from the next on
+entries_from : (s : List ℕ) (k : ℕ) → k + 1 < length s → entries (drop k s) ≡ pair (get_or s k 0) (get_or s (k + 1) 0) ∷ entries (drop (k + 2) s)
+unfolding entries
+entries_from s k h =
+    let h₀ : k < length s = omega arith in
+    let h₁ : suc k < length s = omega arith in
+    let e₁ : k + 1 ≡ suc k = omega arith in
+    let e₂ : k + 2 ≡ suc (suc k) = omega arith in
+    rw (e₁, e₂, drop-cons s k 0 h₀, drop-cons s (suc k) 0 h₁)
+
 -- the entries of one star, put one by one: what is left to put, put, gives the whole
 module _ (g : Entry → ℕ) (s a w : List ℕ) (m i : ℕ) where
   -- the next entry put, those behind it are left
-  pub fill_more : (x : ℕ) → x ≡ g (here s (2 * i)) → sets a (m + i) (map g (entries (drop (2 * i) s))) ≡ w → i < length s / 2
+  pub fill_more : (x : ℕ) → x ≡ g (pair (get_or s (2 * i) 0) (get_or s (2 * i + 1) 0)) → sets a (m + i) (map g (entries (drop (2 * i) s))) ≡ w → i < length s / 2
       → sets (set a (m + i) x) (m + (i + 1)) (map g (entries (drop (2 * (i + 1)) s))) ≡ w
   fill_more x q inv h =
       let e₁ : m + (i + 1) ≡ suc (m + i) = omega arith in
       let e₂ : 2 * (i + 1) ≡ 2 * i + 2 = omega arith in
-      rw (e₁, e₂, q) (rw (entries_more s (2 * i) (omega arith)) at inv)
+      rw (e₁, e₂, q) (rw (entries_from s (2 * i) (omega arith)) at inv)
 
   -- behind the last entry nothing is left to put
   pub fill_done : sets a (m + i) (map g (entries (drop (2 * i) s))) ≡ w → length s / 2 ≤ i → a ≡ w
-  fill_done inv h = rw (entries_done s (2 * i) (omega arith)) at inv
+  fill_done inv h = rw (entries_done (drop (2 * i) s) (simp length-drop (omega arith))) at inv
 
 -- so many stars, by where they end and by their entries
 abbrev pub laid : ℕ → List ℕ → List ℕ → List ℕ → Stars

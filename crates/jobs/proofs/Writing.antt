@@ -7,14 +7,15 @@ use borrow.Author.Tests.{le-leb}
 use lib.ListN.{length, get_or, set, length-append}
 use lib.Seq.{sets}
 use Rattle.floor.specs.Fields.{write_field}
-use Rattle.floor.specs.Jobs.{sized_job, star_bytes, write_stars, write_job, size_bytes, write_sizes, write_sized}
+use Rattle.floor.specs.Jobs.{sized_job, star_bytes, write_stars, write_job, size_of, size_bytes, write_sizes, write_sized}
 use Rattle.floor.proofs.Jobs.Written.{length_star_bytes, length_size_bytes}
 use Rattle.fields.specs.Found.{with_head}
 use Rattle.stars.specs.Held.{to_at, entry_at, cells, start_of, end_of, held_star, stars_in, job_in}
 use Rattle.stars.specs.Sized.{size_at, sizes_from, sizes_in}
 use Rattle.stars.proofs.Holding.{length_stars, length_cells, held_more, held_done}
-use Rattle.stars.proofs.Sized.{sizes_more, sizes_done, length_sizes}
-use Rattle.fields.specs.declared.Written.TheVariants.{Wrote, TooShort}
+use Rattle.stars.proofs.Sized.{sizes_more, sizes_done, length_sizes, width_told, height_told}
+use Rattle.std.specs.Prelude.{Ok, Err}
+use Rattle.refusals.specs.declared.Refusal.TheVariants.{TooShort}
 use Rattle.fields.specs.Writes.{replied, writing}
 use Rattle.fields.proofs.Puts.{sets_append, short_writes, front_writes}
 use Rattle.jobs.specs.Writes.{star_field}
@@ -141,25 +142,19 @@ module _ (n : ℕ) (ends nbr kind : List ℕ) where
       let z : n - 0 ≡ n = omega arith in
       rw z (sym length_job)
 
-  -- at the start all the stars are left to put, and they fit
-  pub put_first : (o : List ℕ) (at : ℕ) → at + length (write_stars (job_in n ends nbr kind)) ≤ length o
-      → (length o ≡ length o) × (at + length (write_stars (job_in (n - 0) ends nbr kind)) ≤ length o)
-      × (sets o at (write_stars (job_in (n - 0) ends nbr kind)) ≡ sets o at (write_stars (job_in n ends nbr kind)))
-  put_first o at k =
-      let z : n - 0 ≡ n = omega arith in
-      (refl, rw z k, rw z)
-
 -- the sizes, written one by one: what is left to put, put, gives the whole
 module _ (o w sizes : List ℕ) (at m i : ℕ) where
   -- the next width and height put, those behind them are left
-  pub list_more : (x y : ℕ) → sets o (at + 2 * i) (size_bytes (sizes_from (m - i) i sizes)) ≡ w → i < m → x ≡ get_or sizes (2 * i) 0
-      → y ≡ get_or sizes (2 * i + 1) 0
+  pub list_more : (x y : ℕ) → sets o (at + 2 * i) (size_bytes (sizes_from (m - i) i sizes)) ≡ w → i < m
+      → x ≡ (size_of (sizes_in m sizes) (4 + i)).wide → y ≡ (size_of (sizes_in m sizes) (4 + i)).tall
       → sets (set (set o (at + 2 * i) x) (at + 2 * i + 1) y) (at + 2 * (i + 1)) (size_bytes (sizes_from (m - (i + 1)) (i + 1) sizes)) ≡ w
   unfolding size_bytes size_at
   list_more x y inv h ex ey =
+      let wide : x ≡ get_or sizes (2 * i) 0 = ex ∙ sym (width_told sizes m i m refl (get_or sizes (2 * i) 0) h refl) in
+      let tall : y ≡ get_or sizes (2 * i + 1) 0 = ey ∙ sym (height_told sizes m i m refl (get_or sizes (2 * i + 1) 0) h refl) in
       let e₂ : at + 2 * i + 1 ≡ suc (at + 2 * i) = omega arith in
       let e₃ : at + 2 * (i + 1) ≡ suc (suc (at + 2 * i)) = omega arith in
-      rw (e₂, e₃, ex, ey) (rw (sizes_more sizes m i h) at inv)
+      rw (e₂, e₃, wide, tall) (rw (sizes_more sizes m i h) at inv)
 
   -- behind the last size nothing is left to put
   pub list_done : sets o (at + 2 * i) (size_bytes (sizes_from (m - i) i sizes)) ≡ w → m ≤ i → o ≡ w
@@ -193,24 +188,24 @@ module _ (sizes : List ℕ) (n : ℕ) where
   list_length : length (size_bytes (sizes_in n sizes)) ≡ 2 * n
   list_length = omega (arith, length_size_bytes (sizes_in n sizes), length_sizes n 0 sizes)
 
-  module _ (h : n ≡ 0 → ⊥) (m : ℕ) (em : m ≡ n) where
+  module _ (h : n ≡ 0 → ⊥) where
     -- three bytes for the head, and two for each size
-    pub some_length : 3 + 2 * m ≡ length (write_sizes (sizes_in n sizes))
+    pub some_length : 3 + 2 * n ≡ length (write_sizes (sizes_in n sizes))
     unfolding write_field
     some_length = rw (some_written h) (omega (arith, list_length))
 
     -- where the field fits, its head and its list do
-    pub some_room : (at l k : ℕ) → k ≡ l → at + length (write_sizes (sizes_in n sizes)) ≤ l → at + 3 + 2 * m ≤ k
+    pub some_room : (at l k : ℕ) → k ≡ l → at + length (write_sizes (sizes_in n sizes)) ≤ l → at + 3 + 2 * n ≤ k
     some_room at l k q r = omega (arith, some_length)
 
     -- a head of tag 7, then the sizes, are the field put at its place
-    pub some_put : (o y x : List ℕ) (at : ℕ) → at + length (write_sizes (sizes_in n sizes)) ≤ length o → y ≡ with_head o at 7 (2 * m)
-        → x ≡ sets y (at + 3) (size_bytes (sizes_in m sizes)) → x ≡ sets o at (write_sizes (sizes_in n sizes))
+    pub some_put : (o y x : List ℕ) (at : ℕ) → at + length (write_sizes (sizes_in n sizes)) ≤ length o → y ≡ with_head o at 7 (2 * n)
+        → x ≡ sets y (at + 3) (size_bytes (sizes_in n sizes)) → x ≡ sets o at (write_sizes (sizes_in n sizes))
     unfolding write_field with_head
     some_put o y x at room ey ex =
         let r : at + 3 ≤ length o = omega (arith, some_length) in
         let e₃ : at + 3 ≡ suc (suc (suc at)) = omega arith in
-        rw (some_written h, list_length) (ex ∙ rw (ey, le-leb (at + 3) (length o) r, e₃, em))
+        rw (some_written h, list_length) (ex ∙ rw (ey, le-leb (at + 3) (length o) r, e₃))
 
 -- the whole job with its sizes
 module _ (n : ℕ) (ends nbr kind : List ℕ) (t : ℕ) (sizes : List ℕ) where
@@ -218,29 +213,25 @@ module _ (n : ℕ) (ends nbr kind : List ℕ) (t : ℕ) (sizes : List ℕ) where
   abbrev sized_bytes : List ℕ
   sized_bytes = write_sized (sized_job (job_in n ends nbr kind) (sizes_in t sizes))
 
-  module _ (m : ℕ) (em : m ≡ n) (o : List ℕ) (b c : ℕ) (eb : b ≡ length (write_job (job_in m ends nbr kind)))
+  module _ (o : List ℕ) (b c : ℕ) (eb : b ≡ length (write_job (job_in n ends nbr kind)))
       (ec : c ≡ length (write_sizes (sizes_in t sizes))) where
-    -- the length of the stars that was counted is that of the job without its sizes
-    is_behind : b ≡ length (bytes n ends nbr kind)
-    is_behind = rw em at eb
-
     -- with that of the sizes it is that of the job's bytes
     is_length : b + c ≡ length sized_bytes
     unfolding write_sized
-    is_length = omega (arith, is_behind, length-append (bytes n ends nbr kind) (write_sizes (sizes_in t sizes)))
+    is_length = omega (arith, eb, length-append (bytes n ends nbr kind) (write_sizes (sizes_in t sizes)))
 
     -- too short a buffer: refused, and the buffer as it was
-    pub write_short : length o < b + c → (replied TooShort ≡ (writing sized_bytes o).reply) × (o ≡ (writing sized_bytes o).buffer)
+    pub write_short : length o < b + c → (replied (Err TooShort) ≡ (writing sized_bytes o).reply) × (o ≡ (writing sized_bytes o).buffer)
     write_short k = short_writes sized_bytes o (omega (arith, is_length))
 
     -- a buffer with room: the length is told, and the front filled
-    pub write_done : (x y v : List ℕ) → y ≡ with_head o 0 1 1 → v ≡ sets (set y 3 n) 4 (write_stars (job_in m ends nbr kind))
+    pub write_done : (x y v : List ℕ) → y ≡ with_head o 0 1 1 → v ≡ sets (set y 3 n) 4 (write_stars (job_in n ends nbr kind))
         → x ≡ sets v b (write_sizes (sizes_in t sizes)) → b + c ≤ length o
-        → (replied (Wrote (b + c)) ≡ (writing sized_bytes o).reply) × (x ≡ (writing sized_bytes o).buffer)
+        → (replied (Ok (b + c)) ≡ (writing sized_bytes o).reply) × (x ≡ (writing sized_bytes o).buffer)
     unfolding with_head write_sized
     write_done x y v ey ev ex k =
-        let r : 0 + 3 ≤ length o = omega (arith, is_behind, length_job n ends nbr kind) in
-        let z : 0 + length (bytes n ends nbr kind) ≡ b = omega (arith, is_behind) in
-        let g : v ≡ sets o 0 (bytes n ends nbr kind) = ev ∙ rw (ey, le-leb (0 + 3) (length o) r, em, job_bytes n ends nbr kind) in
+        let r : 0 + 3 ≤ length o = omega (arith, eb, length_job n ends nbr kind) in
+        let z : 0 + length (bytes n ends nbr kind) ≡ b = omega (arith, eb) in
+        let g : v ≡ sets o 0 (bytes n ends nbr kind) = ev ∙ rw (ey, le-leb (0 + 3) (length o) r, job_bytes n ends nbr kind) in
         let f : x ≡ sets o 0 sized_bytes = ex ∙ rw (g, ← z) (sym (sets_append o 0 (bytes n ends nbr kind) (write_sizes (sizes_in t sizes)))) in
         front_writes sized_bytes o x (b + c) is_length f (omega (arith, is_length))

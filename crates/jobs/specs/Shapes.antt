@@ -1,23 +1,23 @@
 -- What the answers on a job's shape mean, and the stars and sizes as they stand in the bytes. Assumes nothing.
-use Rattle.std.specs.Prelude.{ℕ, zero, suc, ◌+◌, ◌≤◌, ◌≡◌, Bool, true, List, [], ◌∷◌, length, drop}
+use Rattle.std.specs.Prelude.{ℕ, zero, suc, ◌+◌, ◌≤◌, ◌≡◌, Bool, true, List, [], ◌∷◌, length, drop, Option as Answer, Some, None, Result, Ok, Err}
 use Rattle.std.proofs.Math.Option.{Option, none, some}
 use Rattle.floor.specs.Lists.{all}
 use Rattle.floor.specs.Fields.{read_field, value_of, rest_of}
 use Rattle.floor.specs.Jobs.{Star, Job, Sizes, SizedJob, sized_job, pairs_in, entry_ok, entries, size_pairs, test2, Reading, fails, reads}
-use Rattle.jobs.specs.declared.Count.{Count}
-use Rattle.jobs.specs.declared.Count.TheVariants.{Unshaped, Pairs}
-use Rattle.jobs.specs.declared.Shape.{Shape}
-use Rattle.jobs.specs.declared.Shape.TheVariants.{Fails, Rooms}
+use Rattle.refusals.specs.declared.Refusal.{Refusal}
+use Rattle.refusals.specs.Numbers.{number_of}
+use Rattle.jobs.specs.declared.outline.Count.{Count}
+use Rattle.jobs.specs.declared.outline.Shape.{Shape}
 
 -- the number of pairs that an answer gives
-unfoldable pub counted : Count → Option ℕ
-counted Unshaped = none
-counted (Pairs p e) = some p
+unfoldable pub counted : Answer Count → Option ℕ
+counted None = none
+counted (Some c) = some c.pairs
 
 -- what stands from the place on that it gives
-unfoldable pub behind : Count → List ℕ → List ℕ → Type 0
-behind Unshaped bs rest = Unit {0}
-behind (Pairs p e) bs rest = drop e bs ≡ rest
+unfoldable pub behind : Answer Count → List ℕ → List ℕ → Type 0
+behind None bs rest = Unit {0}
+behind (Some c) bs rest = drop c.end bs ≡ rest
 
 -- the pairs of some stars, with p before them
 unfoldable pub pairs_past : ℕ → Option Job → Option ℕ
@@ -37,15 +37,23 @@ sizes_at bs = size_pairs (value_of (read_field bs))
 abbrev pub job_at : ℕ → ℕ → ℕ → List ℕ → SizedJob
 job_at n at end bs = sized_job (stars_at n (drop at bs)) (sizes_at (drop end bs))
 
--- what an answer on the shape of some bytes says of them
-unfoldable pub reading : Shape → List ℕ → Reading SizedJob
-reading (Fails k) bs = fails k
-reading (Rooms n at p e) bs = reads (job_at n at e bs)
+-- the job that stands in some bytes of a shape
+abbrev pub job_shaped : Shape → List ℕ → SizedJob
+job_shaped h bs = job_at h.rooms h.first h.end bs
 
--- what it tells besides: test 2 is passed, how many pairs there are, and that there are no more than 60 sizes
-unfoldable pub told : Shape → List ℕ → Type 0
-told (Fails k) bs = Unit {0}
-told (Rooms n at p e) bs = (test2 n ≡ true) × (p ≡ pairs_in (stars_at n (drop at bs))) × (length (sizes_at (drop e bs)) ≤ 60)
+-- what an answer on the shape of some bytes says of them
+unfoldable pub reading : Result Shape Refusal → List ℕ → Reading SizedJob
+reading (Err k) bs = fails (number_of k)
+reading (Ok h) bs = reads (job_shaped h bs)
+
+-- what a shape tells of some bytes besides: test 2 is passed, how many pairs there are, and that there are no more than 60 sizes
+abbrev pub Fits : Shape → List ℕ → Type 0
+Fits h bs = (test2 h.rooms ≡ true) × (h.pairs ≡ pairs_in (stars_at h.rooms (drop h.first bs))) × (length (sizes_at (drop h.end bs)) ≤ 60)
+
+-- what an answer on the shape tells besides
+unfoldable pub told : Result Shape Refusal → List ℕ → Type 0
+told (Err k) bs = Unit {0}
+told (Ok h) bs = Fits h bs
 
 -- test 4 of one star, room u's among n rooms
 unfoldable pub entries_ok : ℕ → ℕ → Star → Bool

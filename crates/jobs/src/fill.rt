@@ -8,13 +8,6 @@ ghost use Rattle.jobs.specs.Shapes.{stars_at, sizes_at};
 
 use stars::{Sizes, Stars};
 
-// A byte as it is held.
-fn neighbour(byte: u8) -> u16
-    ensures { result ≡ byte }
-{
-    byte as u16
-}
-
 // The entries of one star, put from place m on.
 fn put_star(nbr: &mut [u16], kind: &mut [u8], m: usize, star: &[u8])
     requires { (m + length star.now / 2 ≤ length nbr.old) × (m + length star.now / 2 ≤ length kind.old) }
@@ -22,11 +15,9 @@ fn put_star(nbr: &mut [u16], kind: &mut [u8], m: usize, star: &[u8])
         × (kind.new ≡ sets kind.old m (map kind_of (entries star.now))) }
 {
     let k = star.len() / 2;
-    let mut i: usize = 0;
-    while i < k {
-        nbr[m + i] = neighbour(star[2 * i]);
+    for i in 0..k {
+        nbr[m + i] = u16::from(star[2 * i]);
         kind[m + i] = star[2 * i + 1];
-        i += 1;
     }
 }
 
@@ -35,28 +26,19 @@ pub fn hold(job: &[u8], from: usize, n: u8) -> Stars
     requires { (n ≤ 60) × (pairs_in (stars_at n (drop from job.now)) ≤ 360) }
     ensures { result ≡ held_of (stars_at n (drop from job.now)) }
 {
-    let count = fields::wide(n);
-    let none = stars::held::none_held();
-    let mut ends = none.ends;
-    let mut nbr = none.nbr;
-    let mut kind = none.kind;
+    let count = usize::from(n);
+    let mut held = stars::held::none_held();
     let mut m: usize = 0;
     let mut at = from;
-    let mut i: usize = 0;
-    while i < count {
+    for i in 0..count {
         let star = fields::value_at(job, at);
-        put_star(&mut nbr, &mut kind, m, star);
+        put_star(&mut held.nbr, &mut held.kind, m, star);
         m += star.len() / 2;
-        ends[i] = m as u16;
+        held.ends[i] = m as u16;
         at = fields::after_at(job, at);
-        i += 1;
     }
-    Stars {
-        count: n,
-        ends: ends,
-        nbr: nbr,
-        kind: kind,
-    }
+    held.count = n;
+    held
 }
 
 // The sizes of some bytes, a width and a height each, put at the front.
@@ -65,13 +47,11 @@ fn put_sizes(list: &mut [u8], bytes: &[u8])
     ensures { list.new ≡ sets list.old 0 (size_bytes (size_pairs bytes.now)) }
 {
     let many = bytes.len() / 2;
-    let mut i: usize = 0;
-    while i < many {
+    for i in 0..many {
         let wide = bytes[2 * i];
         let tall = bytes[2 * i + 1];
         list[2 * i] = wide;
         list[2 * i + 1] = tall;
-        i += 1;
     }
 }
 
@@ -81,11 +61,8 @@ pub fn hold_sizes(job: &[u8], at: usize) -> Sizes
     ensures { result ≡ held_sizes (sizes_at (drop at job.now)) }
 {
     let bytes = fields::value_at(job, at);
-    let none = stars::least::none_told();
-    let mut list = none.list;
-    put_sizes(&mut list, bytes);
-    Sizes {
-        told: (bytes.len() / 2) as u8,
-        list,
-    }
+    let mut sizes = stars::least::none_told();
+    put_sizes(&mut sizes.list, bytes);
+    sizes.told = (bytes.len() / 2) as u8;
+    sizes
 }

@@ -10,32 +10,29 @@ ghost use Rattle.jobs.specs.Shapes.{stars_at, entries_ok};
 pub fn entries_pass(job: &[u8], from: usize, n: u8) -> bool
     ensures { result ≡ all_from (entries_ok n) 4 (stars_at n (drop from job.now)) }
 {
-    let count = fields::wide(n);
+    let count = usize::from(n);
     let mut at = from;
-    let mut i: usize = 0;
-    while i < count {
+    for i in 0..count {
         if !stars::star::entries_ok(fields::value_at(job, at), n, 4 + i) {
             return false;
         }
         at = fields::after_at(job, at);
-        i += 1;
     }
     true
 }
 
-// Test 5: whether each of the n stars from a place on is one.
+// Test 5: whether each of the n stars from a place on is one. It has a walk of its own: as a closure of one walk for both it would take a room's number that it
+// does not ask for.
 pub fn stars_pass(job: &[u8], from: usize, n: u8) -> bool
     ensures { result ≡ all star_ok (stars_at n (drop from job.now)) }
 {
-    let count = fields::wide(n);
+    let count = usize::from(n);
     let mut at = from;
-    let mut i: usize = 0;
-    while i < count {
+    for i in 0..count {
         if !stars::star::star_ok(fields::value_at(job, at)) {
             return false;
         }
         at = fields::after_at(job, at);
-        i += 1;
     }
     true
 }
@@ -45,10 +42,8 @@ pub fn place_after(job: &[u8], k: usize) -> usize
     ensures { drop result job.now ≡ after_fields k job.now }
 {
     let mut at: usize = 0;
-    let mut i: usize = 0;
-    while i < k {
+    for i in 0..k {
         at = fields::after_at(job, at);
-        i += 1;
     }
     at
 }

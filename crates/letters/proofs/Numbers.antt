@@ -41,9 +41,9 @@ module _ (page w : List ℕ) (start n : ℕ) (l : length page ≡ 20) where
       next : digits n (n / 10) ((48 + n % 10) ∷ drop start page) ≡ w
       next = rw (le-ltb n 10 h) at inv
 
-  pub digit_last : digits (suc n) n (drop start page) ≡ w → n < 10 → 0 < start → start ≤ 20 → drop (start - 1) (set page (start - 1) (48 + n)) ≡ w
+  pub digit_last : digits (suc n) n (drop start page) ≡ w → n < 10 → 0 < start → start ≤ 20 → drop (start - 1) (set page (start - 1) (48 + n % 10)) ≡ w
   unfolding digits
-  digit_last inv h s k = put_before (48 + n) s k ∙ (rw (lt-ltb n 10 h) at inv)
+  digit_last inv h s k = let e : n % 10 ≡ n = omega arith in rw e (put_before (48 + n) s k ∙ (rw (lt-ltb n 10 h) at inv))
 
 -- before any digit stands on the page, all the digits of the number are left to put
 pub digits_first : (page : List ℕ) (n : ℕ) → length page ≡ 20 → digits (suc n) n (drop 20 page) ≡ decimal n

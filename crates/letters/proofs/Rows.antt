@@ -1,11 +1,12 @@
 -- Texts put at a place, and one behind another, as the code comes by them. Assumes nothing.
 use Prim.Native.Nat.{ℕ, suc, ◌+◌, ◌-◌, ◌<◌, ◌≤◌, min}
 use mathlib.Core.Path.{◌≡◌, refl, sym, ap, ◌∙◌}
-use mathlib.Core.List.{List, [], ◌∷◌, ◌++◌}
+use mathlib.Core.List.{List, [], ◌∷◌, ◌++◌, append_assoc}
 use native.Mathlib.Omega.{arith}
 use native.Mathlib.Decide.{dec_lt}
-use lib.ListN.{length, get_or, set, drop, drop_of_length-le, length-append}
-use lib.Seq.{sets, length-sets, set_out, drop-cons}
+use lib.ListN.{length, take, drop, drop_of_length-le, take-append-drop, length-append}
+use lib.Seq.{sets, sets-eq, length-sets, length-take-le, set_out, drop-drop}
+use borrow.Rule.Slice.PartMut.{put_mid}
 use Rattle.floor.specs.Texts.{line, refused_word}
 use Rattle.fields.proofs.Puts.{sets_append}
 use Rattle.letters.specs.Puts.{behind, Puts}
@@ -39,40 +40,35 @@ both_puts o x y vs ws at m r p q =
         let e : m ≡ at + length vs = omega (arith, p.place) in
         rw (p.buffer, e)
 
--- the bytes of a word put one by one: what is left to put, put, gives the whole
-module _ (o s : List ℕ) (at i : ℕ) where
-  pub byte_more : (w : List ℕ) (many room : ℕ) → sets o (at + i) (drop i s) ≡ w → i < many → many ≡ min (length s) room → sets (set o (at + i) (get_or s i 0)) (at + (i + 1)) (drop (i + 1) s) ≡ w
-  byte_more w many room inv h em =
-      let e₁ : i + 1 ≡ suc i = omega arith in
-      let e₂ : at + (i + 1) ≡ suc (at + i) = omega arith in
-      rw (e₂, e₁) (rw (drop-cons s i 0 (omega arith)) at inv)
+-- what there is no room for is not put
+sets_cut : (o s : List ℕ) (at n : ℕ) → n ≡ min (length s) (length o - at) → sets o at s ≡ sets o at (take n s)
+sets_cut o s at n e =
+    ap (λ (l : List ℕ). sets o at l) (sym (take-append-drop n s)) ∙ sets_append o at (take n s) (drop n s) ∙ rest (dec_lt n (length s))
+  where
+    rest : Dec (n < length s) → sets (sets o at (take n s)) (at + length (take n s)) (drop n s) ≡ sets o at (take n s)
+    rest (yes h) = sets_out (sets o at (take n s)) (drop n s) (at + length (take n s)) (omega (arith, length-sets o at (take n s), length-take-le n s (omega arith)))
+    rest (no h) = let k : length s ≤ n = omega arith in rw (drop_of_length-le s k) refl
 
-  -- a loop that has put as many as there is room for has put the word
-  pub word_put : (o₀ : List ℕ) (many : ℕ) → many ≡ min (length s) (length o₀ - at) → length o ≡ length o₀ → sets o (at + i) (drop i s) ≡ sets o₀ at s
-      → i ≤ many → many ≤ i → Puts o₀ at s o (at + i)
-  unfolding behind
-  word_put o₀ many em l inv h k = record { buffer = go (dec_lt i (length s)); place = omega arith }
-    where
-      go : Dec (i < length s) → o ≡ sets o₀ at s
-      go (yes n) = sym (sets_out o (drop i s) (at + i) (omega arith)) ∙ inv
-      go (no n) = let k : length s ≤ i = omega arith in rw (drop_of_length-le s k) at inv
+-- a word, as far as there is room, written over the bytes behind a place is the word put there
+pub word_put : (o s ys : List ℕ) (at start many : ℕ) → start ≡ min at (length o) → many ≡ min (length s) (length o - at) → ys ≡ take many s
+    → Puts o at s (put_mid start (start + many - start) o ys) (at + many)
+unfolding behind
+word_put o s ys at start many es em ey = record { buffer = go (dec_lt (length o) at); place = omega arith }
+  where
+    long : length (take many s) ≡ many
+    long = length-take-le many s (omega arith)
+
+    there : put_mid start (start + many - start) o ys ≡ sets o start (take many s)
+    there = let ek : start + many - start ≡ many = omega arith in rw (ey, ek) (ap (λ (l : List ℕ). take start o ++ (take many s ++ l)) (drop-drop many start o ∙ ap (λ (m : ℕ). drop (start + m) o) (sym long)) ∙ sym (append_assoc (take start o) (take many s) _) ∙ sym (sets-eq (take many s) o start (omega (arith, long))))
+
+    go : Dec (length o < at) → put_mid start (start + many - start) o ys ≡ sets o at s
+    go (yes h) = let e : many ≡ 0 = omega arith in there ∙ rw e (sym (sets_out o s at (omega arith)))
+    go (no h) = let e : start ≡ at = omega arith in there ∙ rw e (sym (sets_cut o s at many em))
 
 -- nothing, put
 pub none_put : (o : List ℕ) (at : ℕ) → Puts o at [] o at
 unfolding behind
 none_put o at = record { buffer = refl; place = omega arith }
-
--- one byte, put or not
-module _ (o : List ℕ) (at b : ℕ) where
-  -- a byte is put where there is room, and the place behind it is the next
-  pub byte_put : at < length o → Puts o at (b ∷ []) (set o at b) (at + 1)
-  unfolding behind
-  byte_put h = record { buffer = refl; place = omega arith }
-
-  -- past the end no byte is put, and the place stays
-  pub byte_out : length o ≤ at → Puts o at (b ∷ []) o at
-  unfolding behind
-  byte_out h = record { buffer = sym (set_out o at b h); place = omega arith }
 
 -- a text under another name
 pub named : (o t w x : List ℕ) (at r : ℕ) → t ≡ w → Puts o at t x r → Puts o at w x r

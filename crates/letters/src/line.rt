@@ -25,5 +25,5 @@ pub fn put_refusal(out: &mut [u8], at: usize, k: u8) -> usize
     ensures { Puts out.old at (refused_word ++ line (k ∷ [])) out.new result }
 {
     let next = word::put_refused(out, at);
-    put_one(out, next, fields::wide(k))
+    put_one(out, next, usize::from(k))
 }

@@ -7,37 +7,24 @@ ghost use Rattle.letters.specs.Puts.{Puts};
 fn room_for(k: usize, length: usize, at: usize) -> usize
     ensures { result ≡ min k (length - at) }
 {
-    if length < at {
-        return 0;
-    }
-    if length - at < k {
-        return length - at;
-    }
-    k
+    k.min(length.saturating_sub(at))
 }
 
 // Some bytes, put; the place behind them is handed back.
-pub fn put_word<'a>(out: &mut [u8], at: usize, word: &'a [u8]) -> usize
+pub fn put_word(out: &mut [u8], at: usize, word: &[u8]) -> usize
     ensures { Puts out.old at word.now out.new result }
 {
+    let start = at.min(out.len());
     let many = room_for(word.len(), out.len(), at);
-    let mut i: usize = 0;
-    while i < many {
-        out[at + i] = word[i];
-        i += 1;
-    }
-    at + i
+    out[start..start + many].copy_from_slice(&word[..many]);
+    at + many
 }
 
 // One byte, put; the place behind it is handed back.
 pub fn put_byte(out: &mut [u8], at: usize, byte: u8) -> usize
     ensures { Puts out.old at (byte ∷ []) out.new result }
 {
-    if at < out.len() {
-        out[at] = byte;
-        return at + 1;
-    }
-    at
+    put_word(out, at, &[byte])
 }
 
 // The word in front of the number of a refusal.

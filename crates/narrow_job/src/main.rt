@@ -6,20 +6,17 @@ ghost use Rattle.std.specs.Prelude.{◌≤◌, length};
 
 use std::io;
 
-// How many turns were made, said beside the output.
-fn tell(rt: &impl Eprint, turns: usize) -> io::Result<()> {
-    eprintln!(rt; "{turns} turns")
-}
-
 // The number of a refusal, or the job's bytes and the turns: a narrowed job is as long as the job that came in.
 fn show(rt: &(impl Print + Eprint), answer: usize, out: &[u8], long: usize) -> io::Result<()>
     requires { long ≤ length out.now }
 {
-    if answer < 256 {
-        return replies::refuse(rt, answer as u8);
+    match replies::told(answer) {
+        Ok(turns) => {
+            rt.write_all(&out[..long])?;
+            eprintln!(rt; "{turns} turns")
+        }
+        Err(k) => replies::refuse(rt, k),
     }
-    rt.write_all(&out[..long])?;
-    tell(rt, answer - 256)
 }
 
 // What is written for a job.
@@ -33,9 +30,10 @@ fn answer(rt: &(impl Print + Eprint), input: &[u8]) -> io::Result<()> {
 }
 
 fn main(rt: HostRuntime) {
-    let mut input = [0u8; 8193];
-    match streams::read_full(&mut rt.stdin(), &mut input) {
-        Ok(n) => streams::unwritten(&rt, answer(&rt, &input[..n])),
-        Err(why) => streams::unread(&rt, why),
-    }
+    streams::reply(
+        &rt,
+        &mut rt.stdin(),
+        &mut [0; 8193],
+        |input| answer(&rt, input),
+    );
 }

@@ -7,13 +7,13 @@ use Rattle.floor.specs.Plans.{rect_of}
 use Rattle.fields.proofs.Corollaries.{one_answer}
 use Rattle.stars.specs.declared.Stars.{Stars}
 use Rattle.drawing.specs.declared.Plan.{Plan as HeldPlan}
-use Rattle.drawing.specs.declared.Drawing.{Drawing}
+use Rattle.std.specs.Prelude.{Option}
 use Rattle.drawing.specs.Rects.{plan_in}
 use Rattle.narrowing.specs.Slims.{brief, slims_by, first_slims}
 use Rattle.narrowing.specs.Rounds.{plan_across, Rounds}
 
 -- THE PROMISE OF `round` ALLOWS ONE ANSWER, ONE PLAN AND ONE CONTENT OF THE LENT KINDS
-pub one_round : (h : Stars) (z : Sizes) (p : HeldPlan) (a b : Drawing) (x y : List ℕ) → Rounds a x h z p → Rounds b y h z p → (a ≡ b) × (x ≡ y)
+pub one_round : (h : Stars) (z : Sizes) (p : HeldPlan) (a b : Option HeldPlan) (x y : List ℕ) → Rounds a x h z p → Rounds b y h z p → (a ≡ b) × (x ≡ y)
 one_round h z p a b x y e f = (one_answer a b _ e.answers f.answers, one_answer x y _ e.leaves f.leaves)
 
 -- a round does not ask a plan's height

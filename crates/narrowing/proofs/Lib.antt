@@ -1,5 +1,4 @@
 mod Stacking
-mod Copying
 mod Trying
 mod Searching
 pub mod Corollaries

@@ -4,6 +4,7 @@ use Rattle.floor.specs.Jobs.{Sizes, sized_job}
 use Rattle.floor.specs.Plans.{Plan, Answer, refused, rect_of, overlap}
 use Rattle.floor.specs.Narrow.{Search, nothing, pair, first_pair, stacked, narrower}
 use Rattle.stars.specs.declared.Stars.{Stars}
+use Rattle.stars.specs.declared.held.Held.{Held}
 use Rattle.stars.specs.Held.{job_of}
 use Rattle.drawing.specs.declared.Plan.{Plan as HeldPlan}
 use Rattle.drawing.specs.Rects.{plan_in}
@@ -13,6 +14,10 @@ use Rattle.turns.specs.InPlace.{Swing, stops, swings, swing_of, turned_in}
 -- so many stars that lie one behind the other
 abbrev pub stars_of : ℕ → List ℕ → List ℕ → List ℕ → Stars
 stars_of count ends nbr kind = record { count = count; ends = ends; nbr = nbr; kind = kind }
+
+-- stars as they are lent
+abbrev pub stars_lent : Held → Stars
+stars_lent h = stars_of h.count h.ends.now h.nbr.now h.kind.now
 
 -- the stars with a contact turned where it stands; as they are where it is refused
 unfoldable pub turned_stars : Stars → ℕ → ℕ → Stars

@@ -1,106 +1,62 @@
 // One pair: turned in the lent kinds, and numbered; its upright numbers first, since most turns leave the sheet as wide.
-ghost use Rattle.std.specs.Prelude.{◌≡◌, cond, ◌&&◌, ◌+◌, ◌<◌, length};
+ghost use Rattle.std.specs.Prelude.{◌≡◌, cond, ◌&&◌, length};
 ghost use Rattle.floor.specs.Narrow.{pair, nothing, narrower};
 ghost use Rattle.stars.specs.Held.{job_in};
-ghost use Rattle.stars.specs.Sized.{sizes_in};
-ghost use Rattle.drawing.specs.Rects.{plan_from, plan_in};
+ghost use Rattle.stars.specs.Sized.{sizes_lent};
+ghost use Rattle.drawing.specs.Rects.{plan_in, plan_lent};
 ghost use Rattle.turns.specs.InPlace.{swing_of, turned_in};
-ghost use Rattle.narrowing.specs.Slims.{stars_of, brief, tried};
-ghost use Rattle.narrowing.specs.Rounds.{plan_across, no_drawing, is_drawn, does_swing, Finds};
+ghost use Rattle.narrowing.specs.Slims.{stars_lent, brief, tried};
+ghost use Rattle.narrowing.specs.Rounds.{across, does_swing, Finds};
 
-use drawing::{Answer, Drawing};
-use turns::Swing;
-
-// Nothing to draw.
-pub fn no_drawing() -> Drawing
-    ensures { result ≡ no_drawing }
-{
-    let none = drawing::no_plan();
-    Drawing {
-        answer: Answer::Refused(0),
-        plan: none,
-    }
-}
-
-// Whether an answer is a drawing.
-pub fn is_drawn(answer: Answer) -> bool
-    ensures { result ≡ is_drawn answer }
-{
-    match answer {
-        Answer::Drawn => true,
-        Answer::Refused(_) => false,
-    }
-}
-
-// The kinds, copied into lent ones, of which there are as many.
-pub fn copy_kinds(spare: &mut [u8], kind: &[u8])
-    requires { length spare.old ≡ length kind.now }
-    ensures { spare.new ≡ kind.now }
-{
-    let mut k: usize = 0;
-    while k < kind.len() {
-        spare[k] = kind[k];
-        k += 1;
-    }
-}
+use drawing::{Layout, Plan};
+use stars::held::Held;
+use stars::least::Least;
 
 // Whether two rooms reach less than two cells' length over one another.
-fn brief(rects: &[u16], rooms: u8, u: usize, v: usize) -> bool
-    ensures { result ≡ brief (plan_from 0 0 (rooms + 4) rects.now) u v }
+fn brief(plan: &Layout, u: usize, v: usize) -> bool
+    ensures { result ≡ brief (plan_lent plan.now) u v }
 {
-    let one = drawing::rectangle(rects, rooms, u);
-    let other = drawing::rectangle(rects, rooms, v);
+    let one = plan.rectangle(u);
+    let other = plan.rectangle(v);
     drawing::rects::overlap(one.x1, one.x2, other.x1, other.x2) < 2
 }
 
 // Whether the contact of two rooms turns; it is turned in the lent kinds.
-fn turned<'a>(
-    spare: &mut [u8],
-    ends: &'a [u16],
-    nbr: &'a [u16],
-    count: usize,
-    u: usize,
-    v: usize,
-) -> bool
-    ensures { (result ≡ does_swing (swing_of (job_in count ends.now nbr.now spare.old) u v))
-        × (spare.new ≡ turned_in count ends.now nbr.now spare.old u v) }
+fn turned(spare: &mut [u8], stars: &Held, u: usize, v: usize) -> bool
+    ensures { (result ≡ does_swing (swing_of (job_in stars.now.count stars.now.ends.now stars.now.nbr.now spare.old) u v))
+        × (spare.new ≡ turned_in stars.now.count stars.now.ends.now stars.now.nbr.now spare.old u v) }
 {
-    let swing = turns::turn_held(spare, ends, nbr, count, u, v);
-    match swing {
-        Swing::Stops(_) => false,
-        Swing::Swings(_, _, _) => true,
-    }
+    turns::turn_held(spare, stars.ends, stars.nbr, stars.count, u, v).is_ok()
 }
 
-// One pair tried: the drawing of the stars with it turned, where it is brief, turns, and makes the sheet narrower; else a refusal.
-pub fn try_pair<'a>(
+// One pair tried: the plan of the stars with it turned, where it is brief, turns, and makes the sheet narrower; else none.
+pub fn try_pair(
     spare: &mut [u8],
-    ends: &'a [u16],
-    nbr: &'a [u16],
-    kind: &'a [u8],
-    count: usize,
-    told: usize,
-    sizes: &'a [u8],
-    rects: &'a [u16],
-    rooms: u8,
-    width: u16,
+    stars: &Held,
+    sizes: &Least,
+    plan: &Layout,
     u: usize,
     v: usize,
-) -> Drawing
-    requires { length spare.old ≡ length kind.now }
-    ensures { Finds (cond (brief (plan_in (plan_across rooms width rects.now)) u v
-        && narrower width (tried (stars_of count ends.now nbr.now kind.now) (sizes_in told sizes.now) u v)) (pair u v) nothing)
-        result spare.new (stars_of count ends.now nbr.now kind.now) (sizes_in told sizes.now) }
+) -> Option<Plan>
+    requires { length spare.old ≡ length stars.now.kind.now }
+    ensures { Finds (cond (brief (plan_in (across plan.now)) u v
+        && narrower plan.now.width (tried (stars_lent stars.now) (sizes_lent sizes.now) u v)) (pair u v) nothing)
+        result spare.new (stars_lent stars.now) (sizes_lent sizes.now) }
 {
-    if !brief(rects, rooms, u, v) {
-        return no_drawing();
+    if !brief(plan, u, v) {
+        return None;
     }
-    copy_kinds(spare, kind);
-    if !turned(spare, ends, nbr, count, u, v) {
-        return no_drawing();
+    spare.copy_from_slice(stars.kind);
+    if !turned(spare, stars, u, v) {
+        return None;
     }
-    if fields::number(width) <= walls::width_of(ends, nbr, spare, count, told, sizes) {
-        return no_drawing();
+    let next = Held {
+        kind: &*spare,
+        ..*stars
+    };
+    let width = walls::width_of(&next, sizes)?;
+    if usize::from(plan.width) <= width {
+        return None;
     }
-    drawing::plan_stars(ends, nbr, spare, count, told, sizes)
+    drawing::plan_stars(&next, sizes).ok()
 }

@@ -1,117 +1,59 @@
 // The parts of a star, one for each kind: once round it, entries of one kind stand together.
 ghost use Rattle.std.specs.Prelude.{◌<◌};
 
-use crate::sheet::{STEPS, put, sides};
-use stars::held::{end_of, kind_at, start_of};
+use crate::Lay;
+use crate::sheet::Sheet;
+use stars::held::Held;
 
-// A place noted as the one where the entries of a kind start, if the kind changes there.
-fn put_start(parts: &mut [u16], i: usize, before: u8, this: u8, k: usize) {
-    if this == before {
-        return;
-    }
-    if parts.len() / 4 <= i {
-        return;
-    }
-    parts[4 * i + fields::wide(this % 4)] = (k % 65536) as u16;
-}
-
-// The parts of a star that lies from a place to an end, gone once round: before the first entry stands the last.
-fn part_star<'a>(parts: &mut [u16], kind: &'a [u8], i: usize, from: usize, end: usize) {
-    let mut before = if 0 < end { kind_at(kind, end - 1) } else { 0 };
-    let mut k = from;
-    while k < end {
-        let this = kind_at(kind, k);
-        put_start(parts, i, before, this, k);
+// Where the parts of star i start, found by going round it once: before the first entry stands the last.
+pub fn note_part(starts: &mut [u16; 4], stars: &Held, i: usize) {
+    let end = stars.end_of(i);
+    let mut before = if 0 < end { stars.kind_at(end - 1) } else { 0 };
+    for k in stars.start_of(i)..end {
+        let this = stars.kind_at(k);
+        if this != before {
+            starts[usize::from(this % 4)] = (k % 65536) as u16;
+        }
         before = this;
-        k += 1;
     }
 }
 
-// The parts of every star, of stars that lie in so many places at most.
-pub fn part_stars<'a>(
-    parts: &mut [u16],
-    ends: &'a [u16],
-    kind: &'a [u8],
-    most: usize,
-    count: usize,
-) {
-    let mut i: usize = 0;
-    while i < count {
-        let from = start_of(ends, most, i);
-        let end = end_of(ends, most, i);
-        part_star(parts, kind, i, from, end);
-        i += 1;
+impl<'a> Lay<'a> {
+    // Where star i's part of a kind starts.
+    pub(crate) fn part_start(&self, i: usize, want: u8) -> usize
+        ensures { result < 65536 }
+    {
+        if self.parts.len() <= i {
+            return 0;
+        }
+        usize::from(self.parts[i][usize::from(want % 4)])
     }
-}
 
-// Where the part of a kind starts.
-pub fn part_start(parts: &[u16], i: usize, want: u8) -> usize
-    ensures { result < 65536 }
-{
-    if parts.len() / 4 <= i {
-        return 0;
+    // Where it ends: where that of the next kind starts.
+    pub(crate) fn part_end(&self, i: usize, want: u8) -> usize
+        ensures { result < 65536 }
+    {
+        self.part_start(i, want % 4 + 1)
     }
-    fields::number(parts[4 * i + fields::wide(want % 4)])
-}
 
-// Where it ends: where that of the next kind starts.
-pub fn part_end(parts: &[u16], i: usize, want: u8) -> usize
-    ensures { result < 65536 }
-{
-    part_start(parts, i, want % 4 + 1)
-}
-
-// How many places lie from one to another.
-fn places(from: usize, to: usize) -> usize
-    ensures { result < 65536 }
-{
-    if to < from {
-        return 0;
+    // How many entries of a kind star i has.
+    fn part_length(&self, i: usize, want: u8) -> u16 {
+        let first = self.part_start(i, want);
+        let stop = self.part_end(i, want);
+        let many = if first < stop {
+            stop - first
+        } else {
+            self.stars.end_of(i).saturating_sub(first) + stop.saturating_sub(self.stars.start_of(i))
+        };
+        (many % 65536) as u16
     }
-    (to - from) % 65536
-}
 
-// How many entries of a kind a star has.
-fn part_length<'a>(parts: &'a [u16], ends: &'a [u16], most: usize, i: usize, want: u8) -> usize
-    ensures { result < 131072 }
-{
-    let first = part_start(parts, i, want);
-    let stop = part_end(parts, i, want);
-    if first < stop {
-        return stop - first;
-    }
-    places(first, end_of(ends, most, i)) + places(start_of(ends, most, i), stop)
-}
-
-// How many steps lead to a room's high side: one by each contact across, and one from its own low side. A contact with the frame counts for the latter once more.
-fn count_room<'a>(
-    sheet: &mut [u16],
-    cross: u8,
-    ends: &'a [u16],
-    parts: &'a [u16],
-    most: usize,
-    i: usize,
-) {
-    if sides(sheet) <= i {
-        return;
-    }
-    let one = part_length(parts, ends, most, i, cross);
-    let other = part_length(parts, ends, most, i, cross % 4 + 2);
-    put(sheet, STEPS, 4 + i, one + other + 1);
-}
-
-// The steps to every room's high side counted.
-pub fn count_steps<'a>(
-    sheet: &mut [u16],
-    cross: u8,
-    ends: &'a [u16],
-    parts: &'a [u16],
-    most: usize,
-    count: usize,
-) {
-    let mut i: usize = 0;
-    while i < count {
-        count_room(sheet, cross, ends, parts, most, i);
-        i += 1;
+    // How many steps lead to each room's high side: one by each contact across, and one from its own low side. A contact with the frame counts for the latter once more.
+    pub(crate) fn count_steps(&self, sheet: &mut Sheet) {
+        for i in 0..self.stars.count.min(60) {
+            let one = self.part_length(i, self.cross);
+            let other = self.part_length(i, self.cross % 4 + 2);
+            sheet.steps[4 + i] = one.saturating_add(other).saturating_add(1);
+        }
     }
 }

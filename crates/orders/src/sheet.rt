@@ -1,113 +1,69 @@
-// The sheet that an order is worked out on: sixteen numbers for each vertex. Four are for each of its sides; the other eight are for the vertex itself, or for the wall
-// of that number. What lies past its end is 0 and stays so.
-ghost use Rattle.std.specs.Prelude.{◌*◌, ◌<◌, ◌≤◌, length};
+// The sheet that an order is worked out on. What lies past the end of one of its lists is as at the start, and stays so.
+use crate::Visit;
+use crate::row::Row;
 
-// By side. The sides in the order found, wall by wall.
-pub const SIDE: usize = 0;
-
-// The wall of each side, from 1 on; 0 while it is not found.
-pub const WALL: usize = 1;
-
-// The side from which it was found.
-pub const PARENT: usize = 2;
-
-// The place of the contact by which it was found, which stands in the star of the parent, or in its own where the parent is a frame side; or NONE.
-pub const VIA: usize = 3;
-
-// By wall. Where it starts in the order found. It ends where the next starts.
-pub const START: usize = 4;
-
-// How many steps lead to it from walls that are not taken yet.
-pub const NEED: usize = 5;
-
-// The walls in the order in which they are taken.
-pub const TAKEN: usize = 6;
-
-// The number of the star whose room the step comes from that leads to it last, plus 1; 0 where none does.
-pub const FROM: usize = 7;
-
-// The place of that step's contact in that star; NONE for the room's own step.
-pub const AT: usize = 12;
-
-// In a circle, the wall that follows.
-pub const ONWARD: usize = 13;
-
-// By vertex. How many steps lead to its high side; to a frame side none.
-pub const STEPS: usize = 14;
-
-// The counts: a column of their own, in its first rows.
-pub const COUNT: usize = 15;
-
-// Among the counts: the sides found.
-pub const FOUND: usize = 0;
-
-// The walls found.
-pub const WALLS: usize = 1;
-
-// The walls put in order.
-pub const READY: usize = 2;
-
-// The wall now stood at.
-pub const HERE: usize = 3;
-
-// No place.
-pub const NONE: usize = 65535;
-
-// How many sides there is room for.
-pub fn sides(sheet: &[u16]) -> usize
-    ensures { (8 * result ≤ length sheet.now) × (result < 1000000000000000000) }
-{
-    sheet.len() / 8
+// A side: its wall, once it is found; the side from which it was found; and the place of the contact by which it was found, which stands in the star of that side's
+// room, or in its own where that is a frame side. There is no place for the first side of a wall, and none once the contact was visited.
+#[derive(Clone, Copy, Default)]
+pub struct Side {
+    pub wall: Option<u8>,
+    pub parent: u8,
+    pub via: Option<u16>,
 }
 
-// A number of a side.
-pub fn of_side(sheet: &[u16], column: usize, side: usize) -> usize
-    ensures { result < 65536 }
-{
-    if sheet.len() / 8 <= side {
-        return 0;
+// A wall: where its sides start and end in the order found; how many steps lead to it from walls that are not taken yet; the step that leads to it last, if one does;
+// and in a circle the wall that follows.
+#[derive(Clone, Copy, Default)]
+pub struct Wall {
+    pub start: u8,
+    pub end: u8,
+    pub onward: u8,
+    pub need: u16,
+    pub last: Option<Visit>,
+}
+
+// The sides, and in the order found, wall by wall; how many steps lead to each vertex's high side, to a frame side none; the walls, how many were found, the one now
+// stood at, and those put in order.
+#[derive(Drop)]
+pub struct Sheet {
+    pub sides: [Side; 128],
+    pub found: Row<128>,
+    pub steps: [u16; 64],
+    pub walls: [Wall; 64],
+    pub many: u8,
+    pub here: u8,
+    pub taken: Row<64>,
+}
+
+impl Sheet {
+    // Nothing found yet.
+    pub fn new() -> Self {
+        Sheet {
+            sides: [Side::default(); 128],
+            found: Row::new(),
+            steps: [0; 64],
+            walls: [Wall::default(); 64],
+            many: 0,
+            here: 0,
+            taken: Row::new(),
+        }
     }
-    fields::number(sheet[8 * side + column % 8])
-}
 
-// A number laid down for a side.
-pub fn put_side(sheet: &mut [u16], column: usize, side: usize, v: usize) {
-    if sheet.len() / 8 <= side {
-        return;
+    // A side.
+    pub fn side(&self, side: usize) -> Side {
+        self.sides.get(side).copied().unwrap_or_default()
     }
-    sheet[8 * side + column % 8] = (v % 65536) as u16;
-}
 
-// A number of a wall or a vertex.
-pub fn get(sheet: &[u16], column: usize, row: usize) -> usize
-    ensures { result < 65536 }
-{
-    if sheet.len() / 16 <= row {
-        return 0;
+    // A wall.
+    pub fn wall(&self, wall: u8) -> Wall {
+        self.walls
+            .get(usize::from(wall))
+            .copied()
+            .unwrap_or_default()
     }
-    fields::number(sheet[16 * row + column % 16])
-}
 
-// A number laid down for a wall or a vertex.
-pub fn put(sheet: &mut [u16], column: usize, row: usize, v: usize) {
-    if sheet.len() / 16 <= row {
-        return;
-    }
-    sheet[16 * row + column % 16] = (v % 65536) as u16;
-}
-
-// A wall put behind those taken.
-pub fn take(sheet: &mut [u16], wall: usize) {
-    let n = get(sheet, COUNT, READY);
-    put(sheet, TAKEN, n, wall);
-    put(sheet, COUNT, READY, n + 1);
-}
-
-// Noughts everywhere.
-pub fn clear(sheet: &mut [u16]) {
-    let mut i: usize = 0;
-    while i < sheet.len() {
-        sheet[i] = 0;
-        i += 1;
+    // The wall of a room's low side, the room given by the number of its star.
+    pub fn low_wall(&self, star: u8) -> Option<u8> {
+        self.side(2 * (4 + usize::from(star))).wall
     }
 }

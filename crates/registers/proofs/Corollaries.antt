@@ -23,7 +23,8 @@ use Rattle.floor.specs.Calls.Sound.{Sound}
 use Rattle.floor.proofs.Calls.Sound.{some_room, sound_good, sound_thin}
 use Rattle.floor.proofs.Calls.Bytes.{limits}
 use Rattle.floor.proofs.Calls.Registered.{held_walls, held_merged, register_bytes}
-use Rattle.fields.specs.declared.Written.{Written}
+use Rattle.std.specs.Prelude.{Result}
+use Rattle.refusals.specs.declared.Refusal.{Refusal}
 use Rattle.fields.specs.Writes.{replied, writing}
 use Rattle.fields.proofs.Corollaries.{one_written}
 use Rattle.drawing.specs.Rects.{plan_from, plan_in, in_bytes}
@@ -44,7 +45,7 @@ pub one_register : (w h n : ℕ) (l : List ℕ) (r t : Register) → r ≡ kept_
 one_register w h n l r t f g = f ∙ sym g
 
 -- THE PROMISE OF `write_register` ALLOWS ONE ANSWER AND ONE BUFFER
-pub one_register_writing : (ws : List Partition) (o : List ℕ) (a b : Written) (x y : List ℕ)
+pub one_register_writing : (ws : List Partition) (o : List ℕ) (a b : Result ℕ Refusal) (x y : List ℕ)
     → (replied a ≡ (writing (in_bytes (write_register ws)) o).reply) × (x ≡ (writing (in_bytes (write_register ws)) o).buffer)
     → (replied b ≡ (writing (in_bytes (write_register ws)) o).reply) × (y ≡ (writing (in_bytes (write_register ws)) o).buffer) → (a ≡ b) × (x ≡ y)
 one_register_writing ws o a b x y v w = one_written (in_bytes (write_register ws)) o a b x y v w

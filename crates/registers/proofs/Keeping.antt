@@ -15,14 +15,9 @@ use Rattle.floor.specs.Registers.{Stretch, Partition, sides_in}
 use Rattle.floor.specs.Registers.Merge.{opened, extended, goes_on, merge_from, merged}
 use Rattle.drawing.specs.Rects.{rect_at, rects_in, plan_from}
 use Rattle.registers.specs.Sorting.{rooms, lines_of, in_order, ordered_sides, kept_walls}
-use Rattle.registers.specs.Kept.{rows_of, written, noughts, is_upright, no_register, kept_register}
+use Rattle.registers.specs.Kept.{rows_of, written, noughts, is_upright, kept_register}
 use Rattle.registers.proofs.Numbers.{sets_out}
 use Rattle.registers.proofs.Rows.{written_append, written_none}
-
--- noughts alone are no walls
-pub none_kept : (l : List ℕ) → l ≡ replicate 256 0 → record { uprights = 0; many = 0; rows = l } ≡ no_register
-unfolding no_register
-none_kept l e = rw e
 
 -- THE ROOMS of a plan, the first of them
 take_rects : (k n v : ℕ) (l : List ℕ) → take k (rects_in n v l) ≡ rects_in (min k n) v l

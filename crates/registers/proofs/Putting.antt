@@ -6,21 +6,18 @@ use mathlib.Core.List.{List, [], ◌∷◌, ◌++◌}
 use native.Mathlib.Omega.{arith}
 use borrow.Author.Tests.{le-leb, lt-ltb, le-ltb}
 use lib.Dec.{ltb}
-use lib.ListN.{length, get_or, set, get_or-eq_default}
+use lib.ListN.{length, get_or, set}
 use lib.Seq.{sets}
 use Rattle.floor.specs.Fields.{write_field}
 use Rattle.floor.specs.Registers.{Partition, partition_bytes, write_register}
 use Rattle.floor.proofs.Calls.Registered.{length_write_register}
 use Rattle.fields.specs.Found.{with_head}
-use Rattle.fields.specs.declared.Written.TheVariants.{Wrote, TooShort}
+use Rattle.std.specs.Prelude.{Ok, Err}
+use Rattle.refusals.specs.declared.Refusal.TheVariants.{TooShort}
 use Rattle.fields.specs.Writes.{replied, writing}
 use Rattle.fields.proofs.Puts.{sets_append, short_writes, front_writes}
 use Rattle.drawing.specs.Rects.{in_bytes}
 use Rattle.registers.specs.Kept.{wall_at, walls_in}
-
--- past the rows there is nought, and its byte is nought
-pub byte_none : (l : List ℕ) (k : ℕ) → length l ≤ k → 0 ≡ get_or l k 0 % 256
-byte_none l k h = rw (get_or-eq_default l 0 {n = k} h)
 
 -- one of the first walls stands upright
 pub stands_upright : (i u : ℕ) → i < u → 0 ≡ cond {A = ℕ} (ltb i u) 0 1
@@ -117,10 +114,10 @@ module _ (u many : ℕ) (l o : List ℕ) (n : ℕ) (en : n ≡ many) where
   register_length = omega (arith, length_bytes (write_register (walls_in u many 0 l)), length_write_register (walls_in u many 0 l), walls_length u many 0 l)
 
   -- too short a buffer: refused, and the buffer as it was
-  pub register_short : length o < 8 * n → (replied TooShort ≡ (writing bytes o).reply) × (o ≡ (writing bytes o).buffer)
+  pub register_short : length o < 8 * n → (replied (Err TooShort) ≡ (writing bytes o).reply) × (o ≡ (writing bytes o).buffer)
   register_short k = short_writes bytes o (omega (arith, register_length))
 
   -- a buffer with room: the length is told, and the front filled
   pub register_done : (x : List ℕ) (v : ℕ) → v ≡ u → x ≡ sets o 0 (in_bytes (write_register (walls_in v n 0 l))) → 8 * n ≤ length o
-      → (replied (Wrote (8 * n)) ≡ (writing bytes o).reply) × (x ≡ (writing bytes o).buffer)
+      → (replied (Ok (8 * n)) ≡ (writing bytes o).reply) × (x ≡ (writing bytes o).buffer)
   register_done x v ev ex k = front_writes bytes o x (8 * n) (sym register_length) (ex ∙ rw (ev, en)) (omega (arith, register_length))

@@ -4,13 +4,13 @@ use mathlib.Core.Path.{◌≡◌, refl, sym, ap, ◌∙◌}
 use mathlib.Core.Bool.{Bool, true, false, ◌&&◌}
 use mathlib.Core.List.{List, [], ◌∷◌, ◌++◌}
 use native.Mathlib.Omega.{arith}
-use borrow.Author.Tests.{eq-eqb, ne_eqb}
 use lib.Dec.{eqb, leb}
 use lib.ListN.{length, get_or, set, length-append}
 use Rattle.floor.specs.Registers.{Stretch, Partition}
 use Rattle.floor.specs.Registers.Merge.{opened, extended, goes_on, merge_from, merged}
 use Rattle.fields.proofs.Puts.{sets_append}
-use Rattle.registers.specs.Chains.{side, chain, Falls, read_walls}
+use Rattle.registers.specs.declared.chains.Side.{Side}
+use Rattle.registers.specs.Chains.{side, side_of, side_in, chain, Falls, read_walls}
 use Rattle.registers.specs.Kept.{rows_of, row, written}
 use Rattle.registers.specs.Merging.{wall_of}
 use Rattle.registers.specs.declared.merge.Begun.{Begun}
@@ -31,14 +31,6 @@ row_put l at x b e n =
     let e₂ : 4 * at + 2 ≡ suc (suc (4 * at)) = omega arith in
     let e₃ : 4 * at + 3 ≡ suc (suc (suc (4 * at))) = omega arith in
     rw (e₁, e₂, e₃)
-
--- on another line no wall goes on
-pub not_on : (x n b e : ℕ) → (x ≡ n → ⊥) → false ≡ (eqb x n && leb b e)
-not_on x n b e h = rw (ne_eqb x n h)
-
--- on one line, the beginning decides
-pub may_go_on : (x n b e : ℕ) → x ≡ n → leb b e ≡ (eqb x n && leb b e)
-may_go_on x n b e h = rw (eq-eqb x n h)
 
 -- four numbers to a row
 pub rows_length : (ws : List Partition) → length (rows_of ws) ≡ 4 * length ws
@@ -104,12 +96,12 @@ Rests cells l w h l₀ w₀ h₀ =
 -- what is left of a chain
 module _ (cells l l₀ : List ℕ) (w w₀ : Begun) (h h₀ : ℕ) where
   -- a side taken, the chain from the next place is left
-  pub rest_more : (l' : List ℕ) (w' : Begun) (n : ℕ) → Falls cells → 0 < h → n ≡ get_or cells (4 * (h - 1)) 0
-      → ((d : ℕ) (r : List Stretch) → (written l' w'.at (merge_from d (wall_of d w') r) ≡ written l w.at (merge_from d (wall_of d w) (here cells h ∷ r)))
-      × (w'.at + length (merge_from d (wall_of d w') r) ≡ w.at + length (merge_from d (wall_of d w) (here cells h ∷ r))))
+  pub rest_more : (l' : List ℕ) (w' : Begun) (s : Side) (n : ℕ) → Falls cells → 0 < h → n ≡ get_or cells (4 * (h - 1)) 0 → s ≡ side_in cells (h - 1)
+      → ((d : ℕ) (r : List Stretch) → (written l' w'.at (merge_from d (wall_of d w') r) ≡ written l w.at (merge_from d (wall_of d w) (side_of s ∷ r)))
+      × (w'.at + length (merge_from d (wall_of d w') r) ≡ w.at + length (merge_from d (wall_of d w) (side_of s ∷ r))))
       → Rests cells l w h l₀ w₀ h₀ → Rests cells l' w' n l₀ w₀ h₀
-  rest_more l' w' n fall some en f inv d =
-      let e : chain cells h ≡ here cells h ∷ chain cells n = chain_here cells h fall some n en in (
+  rest_more l' w' s n fall some en es f inv d =
+      let e : chain cells h ≡ side_of s ∷ chain cells n = rw es (chain_here cells h fall some n en) in (
         (f d (chain cells n)).0 ∙ ap (λ (r : List Stretch). written l w.at (merge_from d (wall_of d w) r)) (sym e) ∙ (inv d).0,
         (f d (chain cells n)).1 ∙ ap (λ (r : List Stretch). w.at + length (merge_from d (wall_of d w) r)) (sym e) ∙ (inv d).1,
       )

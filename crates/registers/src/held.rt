@@ -2,9 +2,9 @@
 ghost use Rattle.std.specs.Prelude.{◌≡◌};
 ghost use Rattle.registers.specs.Kept.{wall_in, wall_at};
 
-use crate::{chains, put};
+use crate::put;
 
-// A wall: its direction, 0 upright or 1 level, its number, where it begins and ends along its length, and how many room sides lie on it.
+// A wall: its direction, 0 upright or 1 level as its byte says it, its number, where it begins and ends along its length, and how many room sides lie on it.
 #[derive(Clone, Copy)]
 pub struct Wall {
     pub direction: u8,
@@ -18,10 +18,10 @@ pub struct Wall {
 pub fn wall_at(rows: &[u16], uprights: u16, i: usize) -> Wall
     ensures { wall_in result ≡ wall_at uprights rows.now i }
 {
-    let direction = put::direction(fields::number(uprights), i);
+    let direction = put::direction(usize::from(uprights), i);
     if rows.len() <= i {
         return Wall {
-            direction: direction,
+            direction,
             number: 0,
             begins: 0,
             ends: 0,
@@ -30,10 +30,10 @@ pub fn wall_at(rows: &[u16], uprights: u16, i: usize) -> Wall
     }
     let k = 4 * i;
     Wall {
-        direction: direction,
-        number: chains::number_at(rows, k),
-        begins: chains::number_at(rows, k + 1),
-        ends: chains::number_at(rows, k + 2),
-        sides: chains::number_at(rows, k + 3),
+        direction,
+        number: rows.get(k).copied().unwrap_or(0),
+        begins: rows.get(k + 1).copied().unwrap_or(0),
+        ends: rows.get(k + 2).copied().unwrap_or(0),
+        sides: rows.get(k + 3).copied().unwrap_or(0),
     }
 }

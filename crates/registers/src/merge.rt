@@ -1,10 +1,12 @@
 // Sides in order merged to walls, each written to its row.
-ghost use Rattle.std.specs.Prelude.{◌≡◌, ◌&&◌, List, ◌∷◌, ℕ, ◌+◌, ◌*◌, ◌≤◌, ◌<◌, max, eqb, leb, length};
+ghost use Rattle.std.specs.Prelude.{◌≡◌, ◌&&◌, List, ◌∷◌, ℕ, ◌+◌, ◌*◌, ◌≤◌, ◌<◌, eqb, leb, length};
 ghost use Rattle.floor.specs.Registers.{Stretch};
 ghost use Rattle.floor.specs.Registers.Merge.{merge_from, merged};
-ghost use Rattle.registers.specs.Chains.{side, chain, Falls, Starts, read_walls};
+ghost use Rattle.registers.specs.Chains.{side_of, chain, Falls, Starts, read_walls};
 ghost use Rattle.registers.specs.Kept.{row, written};
 ghost use Rattle.registers.specs.Merging.{wall_of};
+
+use crate::chains::{Side, side_at};
 
 // A wall that is begun, and how many stand before it.
 #[derive(Clone, Copy)]
@@ -16,61 +18,51 @@ struct Begun {
     pub sides: u16,
 }
 
-// The greater of two numbers: of two ends the later.
-pub fn greater(a: u16, b: u16) -> u16
-    ensures { result ≡ max a b }
-{
-    if a < b { b } else { a }
-}
-
 // A wall's four numbers put in its row; nothing past the rows.
-fn put_row(rows: &mut [u16], at: usize, line: u16, begins: u16, ends: u16, sides: u16)
-    requires { (length rows.old ≡ 256) × (at < 1000000000) }
-    ensures { rows.new ≡ row rows.old at line begins ends sides }
+fn put_row(rows: &mut [u16], w: Begun)
+    requires { (length rows.old ≡ 256) × (w.at < 1000000000) }
+    ensures { rows.new ≡ row rows.old w.at w.line w.begins w.ends w.sides }
 {
-    let k = 4 * at;
+    let k = 4 * w.at;
     if rows.len() <= k {
         return;
     }
-    rows[k] = line;
-    rows[k + 1] = begins;
-    rows[k + 2] = ends;
-    rows[k + 3] = sides;
+    rows[k] = w.line;
+    rows[k + 1] = w.begins;
+    rows[k + 2] = w.ends;
+    rows[k + 3] = w.sides;
 }
 
 // Whether a wall goes on with a side: it lies on its line, and begins no later than where the wall ends.
-fn goes_on(number: u16, end: u16, line: u16, begins: u16) -> bool
-    ensures { result ≡ (eqb line number && leb begins end) }
+fn goes_on(w: Begun, s: Side) -> bool
+    ensures { result ≡ (eqb s.line w.line && leb s.begins w.ends) }
 {
-    if line != number {
-        return false;
-    }
-    begins <= end
+    s.line == w.line && s.begins <= w.ends
 }
 
 // A side taken to the wall that is begun, or that wall written and a new one begun.
-fn add_side(rows: &mut [u16], w: Begun, line: u16, begins: u16, ends: u16) -> Begun
+fn add_side(rows: &mut [u16], w: Begun, s: Side) -> Begun
     requires { (length rows.old ≡ 256) × (w.at < 1000000000) × (w.sides < 65535) }
     ensures { ((d : ℕ) (l : List Stretch) → (written rows.new result.at (merge_from d (wall_of d result) l)
-        ≡ written rows.old w.at (merge_from d (wall_of d w) (side line begins ends ∷ l)))
-        × (result.at + length (merge_from d (wall_of d result) l) ≡ w.at + length (merge_from d (wall_of d w) (side line begins ends ∷ l))))
+        ≡ written rows.old w.at (merge_from d (wall_of d w) (side_of s ∷ l)))
+        × (result.at + length (merge_from d (wall_of d result) l) ≡ w.at + length (merge_from d (wall_of d w) (side_of s ∷ l))))
         × (result.at ≤ w.at + 1) × (result.sides ≤ w.sides + 1) }
 {
-    if goes_on(w.line, w.ends, line, begins) {
+    if goes_on(w, s) {
         return Begun {
             at: w.at,
             line: w.line,
             begins: w.begins,
-            ends: greater(w.ends, ends),
+            ends: w.ends.max(s.ends),
             sides: w.sides + 1,
         };
     }
-    put_row(rows, w.at, w.line, w.begins, w.ends, w.sides);
+    put_row(rows, w);
     Begun {
         at: w.at + 1,
-        line: line,
-        begins: begins,
-        ends: ends,
+        line: s.line,
+        begins: s.begins,
+        ends: s.ends,
         sides: 1,
     }
 }
@@ -84,12 +76,12 @@ fn merge_rest<'a>(cells: &'a [u16], first: usize, rows: &mut [u16], begun: Begun
 {
     let mut w = begun;
     let mut h = first;
+    // Along a chain from cell to cell: where it ends only its last cell says.
     while 0 < h {
-        let a = 4 * (h - 1);
-        w = add_side(rows, w, cells[a + 1], cells[a + 2], cells[a + 3]);
-        h = fields::number(cells[a]);
+        w = add_side(rows, w, side_at(cells, h - 1));
+        h = usize::from(cells[4 * (h - 1)]);
     }
-    put_row(rows, w.at, w.line, w.begins, w.ends, w.sides);
+    put_row(rows, w);
     w.at + 1
 }
 
@@ -102,15 +94,15 @@ fn merge_chain<'a>(cells: &'a [u16], first: usize, rows: &mut [u16], at: usize) 
     if first == 0 {
         return at;
     }
-    let a = 4 * (first - 1);
+    let s = side_at(cells, first - 1);
     let begun = Begun {
-        at: at,
-        line: cells[a + 1],
-        begins: cells[a + 2],
-        ends: cells[a + 3],
+        at,
+        line: s.line,
+        begins: s.begins,
+        ends: s.ends,
         sides: 1,
     };
-    merge_rest(cells, fields::number(cells[a]), rows, begun)
+    merge_rest(cells, usize::from(cells[4 * (first - 1)]), rows, begun)
 }
 
 // The walls of all chains, each written to its row, from a row on; the row behind them is told.
@@ -120,11 +112,8 @@ pub fn merge_lines<'a>(heads: &'a [u16], cells: &'a [u16], rows: &mut [u16], at:
         × (result ≡ at + length (read_walls d heads.now cells.now (length heads.now)))) × (result ≤ at + 65536 * length heads.now) }
 {
     let mut n = at;
-    let mut x: usize = 0;
-    while x < heads.len() {
-        let first = fields::number(heads[x]);
-        n = merge_chain(cells, first, rows, n);
-        x += 1;
+    for head in heads {
+        n = merge_chain(cells, usize::from(*head), rows, n);
     }
     n
 }

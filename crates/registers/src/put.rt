@@ -10,20 +10,14 @@ ghost use Rattle.registers.specs.Kept.{wall_at, walls_in};
 fn byte_at(rows: &[u16], k: usize) -> u8
     ensures { result ≡ get_or rows.now k 0 % 256 }
 {
-    if rows.len() <= k {
-        return 0;
-    }
-    (rows[k] % 256) as u8
+    (rows.get(k).copied().unwrap_or(0) % 256) as u8
 }
 
 // The direction of wall i: upright where it is one of the first.
 pub fn direction(uprights: usize, i: usize) -> u8
     ensures { result ≡ cond (ltb i uprights) 0 1 }
 {
-    if i < uprights {
-        return 0;
-    }
-    1
+    if i < uprights { 0 } else { 1 }
 }
 
 // The field of one wall.
@@ -46,9 +40,7 @@ pub fn put_walls(out: &mut [u8], rows: &[u16], uprights: usize, many: usize)
     requires { (many < 65536) × (8 * many ≤ length out.old) }
     ensures { out.new ≡ sets out.old 0 (in_bytes (write_register (walls_in uprights many 0 rows.now))) }
 {
-    let mut i: usize = 0;
-    while i < many {
+    for i in 0..many {
         put_wall(out, rows, uprights, i);
-        i += 1;
     }
 }

@@ -7,7 +7,7 @@ use Rattle.floor.specs.Calls.{load}
 use Rattle.floor.specs.Totals.{Jobs, unwrap, Season, refuses_all, tells, tell, season, season_in, figures, figure_lines, season_text, totals}
 use Rattle.floor.specs.Totals.Wrapped.{tell_with}
 use Rattle.floor.proofs.Totals.Wrapped.{tell_start, tell_end, tell_over, tell_broken, tell_other, tell_job}
-use Rattle.season.specs.declared.wrapper.Head.TheVariants.{Job, Broken}
+use Rattle.std.specs.Prelude.{Option as Found, None, Some}
 use Rattle.season.specs.Counted.{counted, added}
 use Rattle.season.specs.Heads.{head_in}
 use Rattle.season.specs.Known.{Known}
@@ -66,7 +66,7 @@ abbrev pub nineteen : List ℕ
 nineteen = season_text (refuses_all 19)
 
 -- one head
-no_head : {X : Type 0} {n : ℕ} → Broken ≡ Job n → X
+no_head : {X : Type 0} {n : ℕ} → ◌≡◌ {A = Found ℕ} None (Some n) → X
 no_head e = let z : ◌≡◌ {A = ℕ} 0 1 = cc in absurd (omega arith)
 
 -- the three bytes of the head of a job, and its length
@@ -76,7 +76,7 @@ record Nine (head : List ℕ) (n : ℕ) : Type 0 where
   is : head ≡ 9 ∷ h ∷ l ∷ []
   long : n ≡ 256 * h + l
 
-nine : (head : List ℕ) (n : ℕ) → length head ≡ 3 → head_in head ≡ Job n → Nine head n
+nine : (head : List ℕ) (n : ℕ) → length head ≡ 3 → head_in head ≡ Some n → Nine head n
 unfolding head_in
 nine [] n k e = absurd (omega arith)
 nine (t ∷ []) n k e = absurd (omega arith)
@@ -84,7 +84,7 @@ nine (t ∷ h ∷ []) n k e = absurd (omega arith)
 nine (t ∷ h ∷ l ∷ x ∷ s) n k e = absurd (omega arith)
 nine (t ∷ h ∷ l ∷ []) n k e = go (eqb t 9) refl e
   where
-    go : (b : Bool) → eqb t 9 ≡ b → cond b (Job (256 * h + l)) Broken ≡ Job n → Nine (t ∷ h ∷ l ∷ []) n
+    go : (b : Bool) → eqb t 9 ≡ b → cond b (Some (256 * h + l)) None ≡ Some n → Nine (t ∷ h ∷ l ∷ []) n
     go false q e = no_head e
     go true q e = record { h = h; l = l; is = ap (λ (x : ℕ). x ∷ h ∷ l ∷ []) (eqb-true t 9 q); long = cc }
 
@@ -131,7 +131,7 @@ prints s bs e = rw e
 
 module _ (left : ℕ) (sums bs : List ℕ) where
   -- A JOB: its head of three bytes, and as many bytes as that says
-  pub known_job : Known (suc left) sums bs → (head v : List ℕ) (n : ℕ) → length head ≡ 3 → head_in head ≡ Job n → length v ≡ n
+  pub known_job : Known (suc left) sums bs → (head v : List ℕ) (n : ℕ) → length head ≡ 3 → head_in head ≡ Some n → length v ≡ n
       → Known left (added sums (counted (load v))) (bs ++ head ++ v)
   known_job k head v n three e long = let x : Nine head n = nine head n three e in record {
     past = k.past ++ v ∷ [];
@@ -152,7 +152,7 @@ module _ (left : ℕ) (sums bs : List ℕ) where
       prints _ bs w ∙ rw k.are
 
   -- BROKEN, whatever follows: three bytes that are no head of a job, or fewer at the end
-  pub known_before : Known (suc left) sums bs → (head rest : List ℕ) → head_in head ≡ Broken → 0 < length head → length head ≤ 3
+  pub known_before : Known (suc left) sums bs → (head rest : List ℕ) → head_in head ≡ None → 0 < length head → length head ≤ 3
       → (length head ≡ 3) ⊎ (rest ≡ []) → totals (bs ++ (head ++ rest)) ≡ nineteen
   known_before k head rest e any few three = prints _ _ (k.whole (head ++ rest) ∙ go head e any few three)
     where
@@ -161,10 +161,10 @@ module _ (left : ℕ) (sums bs : List ℕ) where
       other t x y true q n = tell_other k.past left t (x ∷ y ∷ rest) t (take (256 * x + y) rest) (drop (256 * x + y) rest) (read_long t x y rest q) n
       other t x y false q n = tell_broken k.past left t (x ∷ y ∷ rest) (read_less t x y rest q)
 
-      no_tag : (t x y : ℕ) → head_in (t ∷ x ∷ y ∷ []) ≡ Broken → t ≡ 9 → ⊥
+      no_tag : (t x y : ℕ) → head_in (t ∷ x ∷ y ∷ []) ≡ None → t ≡ 9 → ⊥
       no_tag t x y e n = unfold head_in in no_head (sym (rw (eq-eqb t 9 n) at e))
 
-      go : (head : List ℕ) → head_in head ≡ Broken → 0 < length head → length head ≤ 3 → (length head ≡ 3) ⊎ (rest ≡ [])
+      go : (head : List ℕ) → head_in head ≡ None → 0 < length head → length head ≤ 3 → (length head ≡ 3) ⊎ (rest ≡ [])
           → tell_with k.past (unwrap (suc left) (head ++ rest)) ≡ refuses_all 19
       go [] e any few three = absurd (omega arith)
       go (t ∷ []) e any few (inl l) = absurd (omega arith)
@@ -175,11 +175,11 @@ module _ (left : ℕ) (sums bs : List ℕ) where
       go (t ∷ x ∷ y ∷ a ∷ s) e any few three = absurd (omega arith)
 
   -- BROKEN at the end: one to three bytes that are no head of a job
-  pub known_broken : Known (suc left) sums bs → (head : List ℕ) → head_in head ≡ Broken → 0 < length head → length head ≤ 3 → totals (bs ++ head) ≡ nineteen
+  pub known_broken : Known (suc left) sums bs → (head : List ℕ) → head_in head ≡ None → 0 < length head → length head ≤ 3 → totals (bs ++ head) ≡ nineteen
   known_broken k head e any few = rw (append-nil head) at (known_before k head [] e any few (inr refl))
 
   -- CUT SHORT: the head of a job, and fewer bytes behind it than it says
-  pub known_short : Known (suc left) sums bs → (head v : List ℕ) (n : ℕ) → length head ≡ 3 → head_in head ≡ Job n → length v < n
+  pub known_short : Known (suc left) sums bs → (head v : List ℕ) (n : ℕ) → length head ≡ 3 → head_in head ≡ Some n → length v < n
       → totals (bs ++ head ++ v) ≡ nineteen
   known_short k head v n three e short =
       let x : Nine head n = nine head n three e in

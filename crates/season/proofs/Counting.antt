@@ -1,28 +1,27 @@
 -- What one job counts for, as the code comes by it. Assumes nothing.
-use Rattle.std.proofs.Common.{◌≡◌, ℕ, suc, ◌+◌, ◌-◌, ◌*◌, ◌<◌, ◌≤◌, cond, eqb, List, [], ◌∷◌, map, get_or, take, sym, refl, ap, ◌∙◌, lt_of_le_of_lt, mul-le-mul, arith, lit<, w64, Fits, eq-eqb, ne_eqb}
+use Rattle.std.proofs.Common.{◌≡◌, ℕ, suc, ◌+◌, ◌-◌, ◌*◌, ◌<◌, ◌≤◌, cond, eqb, List, [], ◌∷◌, map, get_or, take, sym, ap, ◌∙◌, lt_of_le_of_lt, mul-le-mul, arith, lit<, w64, Fits}
+use Rattle.std.specs.Prelude.{Bool, true, false, Result, Ok, Err}
 use Rattle.floor.specs.Lists.{sum}
+use Rattle.floor.specs.Lists.Laws.{bit}
 use Rattle.floor.specs.Plans.{nowhere, area, refused, held}
 use Rattle.floor.specs.Totals.{accepts, fell_to, of_plan, room_cells, frame_cells, sheet_cells, refusals, measures}
 use Rattle.floor.proofs.Totals.Figures.{plan_cells}
 use Rattle.floor.specs.Calls.{load}
 use Rattle.floor.specs.Calls.Sound.{Sound}
 use Rattle.floor.proofs.Calls.Sound.{sound_good, load_held}
-use Rattle.drawing.specs.declared.Answer.TheVariants.{Drawn, Refused}
-use Rattle.drawing.specs.declared.Plan.{Plan as HeldPlan}
+use Rattle.drawing.specs.declared.Layout.{Layout}
 use Rattle.drawing.specs.declared.Rect.{Rect as HeldRect}
-use Rattle.drawing.specs.Rects.{rect_in, rects_in, plan_in}
-use Rattle.drawing.specs.Drawn.{said}
-use Rattle.board.specs.declared.Planned.{Planned}
-use Rattle.board.specs.Boards.{held_job, Plans}
+use Rattle.drawing.specs.Rects.{rect_in, rects_in, rects_lent, plan_lent, plan_in}
+use Rattle.refusals.specs.declared.Refusal.{Refusal}
+use Rattle.refusals.specs.Numbers.{number_of}
+use Rattle.board.specs.declared.Board.{Board as HeldBoard}
+use Rattle.board.specs.Boards.{held_job, said, Plans}
 use Rattle.season.specs.Counted.{counted, listed}
 
--- one for two numbers that are the same,
-pub same_one : (a b : ℕ) → a ≡ b → 1 ≡ cond {A = ℕ} (eqb a b) 1 0
-same_one a b e = rw (eq-eqb a b e)
-
--- nothing for others
-pub other_none : (a b : ℕ) → (a ≡ b → ⊥) → 0 ≡ cond {A = ℕ} (eqb a b) 1 0
-other_none a b n = rw (ne_eqb a b n)
+-- one for two numbers that are the same, nothing for others
+pub same_bit : (b : Bool) (x y n : ℕ) → n ≡ bit b → b ≡ eqb x y → n ≡ cond {A = ℕ} (eqb x y) 1 0
+same_bit true x y n e q = rw (← q, e)
+same_bit false x y n e q = rw (← q, e)
 
 -- one where a job fell to it
 abbrev Is : ℕ → ℕ → ℕ → Type 0
@@ -58,48 +57,44 @@ unfolding listed refusals
 list_is n k w h f x y a b c d e g i j l m ex ey pa pb pc pd pe pg pi pj pl pm = rw (ex, ey, pa, pb, pc, pd, pe, pg, pi, pj, pl, pm)
 
 -- a job planned
-module _ (bs : List ℕ) (q : Planned) (p : Plans q (load bs)) where
+module _ (bs : List ℕ) (q : Result HeldBoard Refusal) (p : Plans q (load bs)) where
   -- it is refused,
-  pub counts_refused : (k : ℕ) (r : List ℕ) → q.answer ≡ Refused k → r ≡ listed 0 k 0 0 0 → r ≡ counted (load bs)
+  pub counts_refused : (k : Refusal) (n : ℕ) (r : List ℕ) → q ≡ Err k → n ≡ number_of k → r ≡ listed 0 n 0 0 0 → r ≡ counted (load bs)
   unfolding said counted measures refusals accepts fell_to of_plan listed
-  counts_refused k r d e =
-      let h : load bs ≡ refused k = sym (rw d at p.says) in
-      rw h e
+  counts_refused k n r d i e =
+      let h : load bs ≡ refused (number_of k) = sym (rw d at p.says) in
+      rw h (rw i at e)
 
   -- or drawn
-  module _ (d : q.answer ≡ Drawn) (f : ℕ) (e : f ≡ sum (map area (take 4 (rects_in (q.board.plan.rooms + 4) 0 q.board.plan.rects)))) where
-    -- the held plan
-    abbrev plan : HeldPlan
-    plan = q.board.plan
-
-    -- loading it holds that plan,
-    loads_so : load bs ≡ held (held_job q.board) (plan_in plan)
+  module _ (b : HeldBoard) (d : q ≡ Ok b) (l : Layout) (el : plan_lent l ≡ plan_in b.plan) (f : ℕ) (e : f ≡ sum (map area (take 4 (rects_lent l)))) where
+    -- loading it holds its plan,
+    loads_so : load bs ≡ held (held_job b) (plan_in b.plan)
     unfolding said
     loads_so = sym (rw d at p.says)
 
     -- whose frame has so many cells,
-    frame_so : f ≡ frame_cells (plan_in plan)
-    unfolding frame_cells plan_in
-    frame_so = e
+    frame_so : f ≡ frame_cells (plan_in b.plan)
+    unfolding frame_cells
+    frame_so = rw (← el) e
 
     -- and its rooms all others
-    cells_so : room_cells (plan_in plan) + f ≡ sheet_cells (plan_in plan)
+    cells_so : room_cells (plan_in b.plan) + f ≡ sheet_cells (plan_in b.plan)
     cells_so =
-        let s : Sound (held_job q.board) (plan_in plan) = (load_held bs _ _ loads_so).1 in
-        ap (λ (n : ℕ). room_cells (plan_in plan) + n) frame_so ∙ plan_cells _ _ s.passes (sound_good _ _ s)
+        let s : Sound (held_job b) (plan_in b.plan) = (load_held bs _ _ loads_so).1 in
+        ap (λ (n : ℕ). room_cells (plan_in b.plan) + n) frame_so ∙ plan_cells _ _ s.passes (sound_good _ _ s)
 
     -- its sheet, by its numbers
-    sheet_so : sheet_cells (plan_in plan) ≡ plan.width * plan.height
-    unfolding sheet_cells plan_in
-    sheet_so = refl
+    sheet_so : sheet_cells (plan_in b.plan) ≡ l.width * l.height
+    unfolding sheet_cells
+    sheet_so = rw (← el)
 
     -- the frame lies on the sheet
-    pub frame_within : f ≤ plan.width * plan.height
+    pub frame_within : f ≤ l.width * l.height
     frame_within = omega (arith, cells_so, sheet_so)
 
     -- AN ACCEPTED JOB
-    pub counts_drawn : (r : List ℕ) → r ≡ listed 1 0 plan.width plan.height f → r ≡ counted (load bs)
+    pub counts_drawn : (r : List ℕ) → r ≡ listed 1 0 l.width l.height f → r ≡ counted (load bs)
     unfolding counted measures refusals accepts fell_to of_plan listed
     counts_drawn r er =
-        let rooms : plan.width * plan.height - f ≡ room_cells (plan_in plan) = omega (arith, cells_so, sheet_so) in
-        er ∙ rw (loads_so, rooms, ← sheet_so, ← frame_so) (unfold plan_in in refl)
+        let rooms : l.width * l.height - f ≡ room_cells (plan_in b.plan) = omega (arith, cells_so, sheet_so) in
+        er ∙ rw (loads_so, rooms, ← sheet_so, ← frame_so, ← el)

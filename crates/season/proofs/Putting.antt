@@ -1,54 +1,34 @@
 -- The figures put in a lent buffer, and what is told of them, as the code comes by it. Assumes nothing.
-use Rattle.std.proofs.Common.{◌≡◌, ℕ, suc, ◌+◌, ◌<◌, ◌≤◌, true, false, not, List, ◌++◌, length, get_or, take, drop, set, refl, append_assoc, arith, length-take-le, take_all, drop-cons, take-suc, le-leb}
-use borrow.Author.Tests.{lt-leb, not-true, not-false}
-use lib.Seq.{set_at}
-use Rattle.floor.specs.Totals.{refuses_all, tells, season, season_in}
-use Rattle.season.specs.declared.Sums.{Sums}
-use Rattle.season.specs.Summed.{told}
-
--- the first i figures are put, and behind them the buffer is as it was
-module _ (s o : List ℕ) (i : ℕ) (x : List ℕ) (inv : x ≡ take i s ++ drop i o) where
-  -- one more
-  pub put_more : i < length s → length s ≤ length o → set x i (get_or s i 0) ≡ take (i + 1) s ++ drop (i + 1) o
-  put_more h l =
-      let e : i + 1 ≡ suc i = omega arith in
-      let n : length (take i s) ≡ i = length-take-le i s (omega arith) in
-      rw (inv, e, drop-cons o i 0 (omega arith), take-suc s i 0 h, append_assoc) (set_at (take i s) (get_or o i 0) (drop (suc i) o) (get_or s i 0) i n)
-
-  -- all of them
-  pub put_done : length s ≤ i → i ≤ length s → x ≡ s ++ drop (length s) o
-  put_done h g = let e : i ≡ length s = omega arith in rw e at (rw (take_all i s h) at inv)
-
--- what sums that could not be read tell
-pub broken_tells : (sums : List ℕ) → told (record { whole = false; sums = sums }) ≡ refuses_all 19
-unfolding told
-broken_tells sums = refl
-
--- and what those that could
-pub whole_tells : (sums : List ℕ) → told (record { whole = true; sums = sums }) ≡ tells sums
-unfolding told
-whole_tells sums = refl
+use Rattle.std.proofs.Common.{◌≡◌, ℕ, ◌<◌, ◌≤◌, List, ◌++◌, length, drop, refl, arith, le-leb}
+use borrow.Author.Tests.{lt-leb}
+use Rattle.std.specs.Prelude.{Result, Ok, Err}
+use Rattle.floor.specs.Totals.{tells, season, season_in}
+use Rattle.refusals.specs.declared.Refusal.{Refusal}
+use Rattle.refusals.specs.declared.Refusal.TheVariants.{TooShort}
+use Rattle.refusals.specs.Numbers.{number_of}
+use Rattle.season.specs.Summed.{told, one_number}
 
 -- what is told in a lent buffer
-module _ (bs buf : List ℕ) (r : Sums) (e : told r ≡ season bs) where
-  -- nineteen
-  pub total_broken : not r.whole ≡ true → (19 ≡ (season_in (season bs) buf).number) × (buf ≡ (season_in (season bs) buf).figures)
-  unfolding told season_in
-  total_broken t = rw (← e, not-true r.whole t) (refl, refl)
+module _ (bs buf : List ℕ) (r : Result (List ℕ) Refusal) (e : told r ≡ season bs) where
+  -- a refusal
+  pub total_refused : (k : Refusal) → r ≡ Err k → (t : Result (Unit {0}) Refusal) → t ≡ Err k
+      → (one_number t ≡ (season_in (season bs) buf).number) × (buf ≡ (season_in (season bs) buf).figures)
+  unfolding told one_number season_in
+  total_refused k d t f = rw (← e, d, f) (refl, refl)
 
-  module _ (t : not r.whole ≡ false) (l : length r.sums ≡ 16) where
+  module _ (s : List ℕ) (d : r ≡ Ok s) (l : length s ≡ 16) where
     -- the figures
-    so : tells r.sums ≡ season bs
+    so : tells s ≡ season bs
     unfolding told
-    so = rw (not-false r.whole t) at e
+    so = rw d at e
 
     -- a buffer too short
-    pub total_short : length buf < 16 → (14 ≡ (season_in (season bs) buf).number) × (buf ≡ (season_in (season bs) buf).figures)
-    unfolding season_in
-    total_short h = rw (← so, lt-leb (length r.sums) (length buf) (omega arith)) (refl, refl)
+    pub total_short : length buf < 16 → (one_number (Err TooShort) ≡ (season_in (season bs) buf).number) × (buf ≡ (season_in (season bs) buf).figures)
+    unfolding season_in one_number number_of
+    total_short h = rw (← so, lt-leb (length s) (length buf) (omega arith)) (refl, refl)
 
     -- room enough
-    pub total_told : (x : List ℕ) → 16 ≤ length buf → x ≡ r.sums ++ drop (length r.sums) buf
-        → (256 + 16 ≡ (season_in (season bs) buf).number) × (x ≡ (season_in (season bs) buf).figures)
-    unfolding season_in
-    total_told x h p = rw (← so, le-leb (length r.sums) (length buf) (omega arith)) (omega arith, p)
+    pub total_told : (x : List ℕ) → 16 ≤ length buf → x ≡ s ++ drop (length s) buf
+        → (one_number (Ok tt) ≡ (season_in (season bs) buf).number) × (x ≡ (season_in (season bs) buf).figures)
+    unfolding season_in one_number
+    total_told x h p = rw (← so, le-leb (length s) (length buf) (omega arith)) (omega arith, p)

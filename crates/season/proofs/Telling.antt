@@ -9,11 +9,14 @@ use Rattle.floor.specs.Totals.{Jobs, unwrap, refusals, over, measures, figures, 
 use Rattle.floor.specs.Totals.Wrapped.{tell_with}
 use Rattle.floor.proofs.Totals.Wrapped.{tell_start, tell_end, tell_over, tell_broken, tell_other, tell_job}
 use Rattle.floor.proofs.Totals.Figures.{over_nil, over_cons, over_append, figures_small}
-use Rattle.fields.specs.declared.Found.{Found}
-use Rattle.fields.specs.declared.Found.TheVariants.{Broken, Whole}
+use Rattle.std.specs.Prelude.{Option, None, Some, Ok, Err}
+use Rattle.fields.specs.declared.Field.{Field as Place}
+use Rattle.refusals.specs.declared.Refusal.TheVariants.{NoSeason}
+use Rattle.refusals.specs.Numbers.{number_of}
 use Rattle.fields.specs.Found.{found}
 use Rattle.fields.proofs.Laws.{no_field, the_field}
 use Rattle.season.specs.Counted.{counted, added}
+use Rattle.season.specs.Summed.{told}
 
 -- ---- the figures of one job more
 
@@ -48,6 +51,11 @@ figures_more js b h = added_over js b measures (unfold figures in figures_small 
 
 -- ---- wrapper by wrapper
 
+-- what is told of a season that cannot be read: nineteen
+no_season : told (Err NoSeason) ≡ refuses_all 19
+unfolding told number_of
+no_season = refl
+
 -- the jobs before a place of the bytes are read, their figures are these, and so many more may come
 pub record Past (bs : List ℕ) (at left : ℕ) (sums : List ℕ) : Type 0 where
   pub past : Jobs
@@ -61,7 +69,8 @@ past_none bs left sums e z = record { past = []; whole = rw e (tell_start bs); a
 
 module _ (bs : List ℕ) (at left : ℕ) (sums : List ℕ) (p : Past bs at left sums) where
   -- behind the last byte: the figures
-  pub past_end : length bs ≤ at → tells sums ≡ season bs
+  pub past_end : length bs ≤ at → told (Ok sums) ≡ season bs
+  unfolding told
   past_end h =
       let d : drop at bs ≡ [] = drop_of_length-le bs h in
       let w : season bs ≡ tells (figures p.past) = (rw d at p.whole) ∙ tell_end p.past left in
@@ -73,38 +82,38 @@ module _ (bs : List ℕ) (at left : ℕ) (sums : List ℕ) (p : Past bs at left 
     here = drop-cons bs at 0 h
 
     -- one wrapper too many
-    pub past_over : left ≡ 0 → refuses_all 19 ≡ season bs
-    past_over z = sym ((rw (here, z) at p.whole) ∙ tell_over p.past (get_or bs at 0) (drop (suc at) bs))
+    pub past_over : left ≡ 0 → told (Err NoSeason) ≡ season bs
+    past_over z = no_season ∙ sym ((rw (here, z) at p.whole) ∙ tell_over p.past (get_or bs at 0) (drop (suc at) bs))
 
-    module _ (ne : left ≡ 0 → ⊥) (f : Found) (q : found f bs ≡ read_field (drop at bs)) where
+    module _ (ne : left ≡ 0 → ⊥) (f : Option Place) (q : found f bs ≡ read_field (drop at bs)) where
       -- there is room for one more
       room : left ≡ suc (left - 1)
       room = omega arith
 
       -- a broken wrapper
-      pub past_broken : f ≡ Broken → refuses_all 19 ≡ season bs
+      pub past_broken : f ≡ None → told (Err NoSeason) ≡ season bs
       past_broken e =
-          sym ((rw (here, room) at p.whole) ∙ tell_broken p.past (left - 1) (get_or bs at 0) (drop (suc at) bs) (rw here at (no_field bs at f e q)))
+          no_season ∙ sym ((rw (here, room) at p.whole) ∙ tell_broken p.past (left - 1) (get_or bs at 0) (drop (suc at) bs) (rw here at (no_field bs at f e q)))
 
-      module _ (t a e : ℕ) (w : f ≡ Whole t a e) where
+      module _ (w : Place) (o : f ≡ Some w) where
         -- what is wrapped, and what is behind it
         abbrev value : List ℕ
-        value = take (e - a) (drop a bs)
+        value = take (w.end - w.start) (drop w.start bs)
 
         -- as it is read
-        is_read : read_field (get_or bs at 0 ∷ drop (suc at) bs) ≡ field t value (drop e bs)
-        is_read = rw here at (the_field bs at f t a e w q)
+        is_read : read_field (get_or bs at 0 ∷ drop (suc at) bs) ≡ field w.tag value (drop w.end bs)
+        is_read = rw here at (the_field bs at f w o q)
 
         -- another field
-        pub past_other : (t ≡ 9 → ⊥) → refuses_all 19 ≡ season bs
+        pub past_other : (w.tag ≡ 9 → ⊥) → told (Err NoSeason) ≡ season bs
         past_other n =
-            sym ((rw (here, room) at p.whole) ∙ tell_other p.past (left - 1) (get_or bs at 0) (drop (suc at) bs) t value (drop e bs) is_read n)
+            no_season ∙ sym ((rw (here, room) at p.whole) ∙ tell_other p.past (left - 1) (get_or bs at 0) (drop (suc at) bs) w.tag value (drop w.end bs) is_read n)
 
         -- a job: its figures are added
-        pub past_job : (next : List ℕ) → t ≡ 9 → next ≡ added sums (counted (load value)) → Past bs e (left - 1) next
+        pub past_job : (next : List ℕ) → w.tag ≡ 9 → next ≡ added sums (counted (load value)) → Past bs w.end (left - 1) next
         past_job next n s = record {
           past = p.past ++ value ∷ [];
-          whole = (rw (here, room) at p.whole) ∙ tell_job p.past (left - 1) (get_or bs at 0) (drop (suc at) bs) value (drop e bs) (rw n at is_read);
+          whole = (rw (here, room) at p.whole) ∙ tell_job p.past (left - 1) (get_or bs at 0) (drop (suc at) bs) value (drop w.end bs) (rw n at is_read);
           are = s ∙ (rw p.are (figures_more p.past value (omega (arith, p.many))));
           many = omega (arith, p.many, length-append p.past (value ∷ []));
         }

@@ -1,13 +1,13 @@
 // The season's totals: what many jobs, each in a wrapper, come to together.
 #![tactic(auto)]
 
-ghost use Rattle.std.specs.Prelude.{◌≡◌, ◌≤◌, ◌++◌, length, drop, replicate};
+ghost use Rattle.std.specs.Prelude.{◌≡◌, length, replicate};
 ghost use Rattle.floor.specs.Calls.{load};
-ghost use Rattle.floor.specs.Totals.{refuses_all, season, season_in};
+ghost use Rattle.floor.specs.Totals.{season, season_in};
 ghost use Rattle.season.specs.Counted.{counted, added};
-ghost use Rattle.season.specs.Summed.{told};
+ghost use Rattle.season.specs.Summed.{told, one_number};
 
-use fields::Found;
+use refusals::Refusal;
 
 mod counts; // counts.rt: what one job counts for
 pub mod wrapper; // wrapper.rt: the head of a wrapper
@@ -21,99 +21,70 @@ pub fn none() -> [usize; 16]
 }
 
 // Some figures added to sums, place by place.
-fn add_up<'a>(sums: &mut [usize], more: &'a [usize])
+// By index: behind a zip of `iter_mut` nothing is known of what the loop wrote.
+fn add_up(sums: &mut [usize], more: &[usize])
     requires { length sums.old ≡ length more.now }
     ensures { sums.new ≡ added sums.old more.now }
 {
-    let mut i: usize = 0;
-    while i < sums.len() {
-        let sum = sums[i];
-        let one = more[i];
-        sums[i] = std::num::wrapping_add_usize(sum, one);
-        i += 1;
+    for i in 0..sums.len() {
+        sums[i] = sums[i].wrapping_add(more[i]);
     }
 }
 
 // What a job counts for added to sums.
-pub fn add<'a>(sums: &mut [usize; 16], job: &'a [u8])
+pub fn add(sums: &mut [usize; 16], job: &[u8])
     ensures { sums.new ≡ added sums.old (counted (load job.now)) }
 {
-    let counts = counts::counts_of(job);
-    add_up(sums, &counts);
+    add_up(sums, &counts::counts_of(job));
 }
 
-// Whether every wrapper could be read, and then the sums of its jobs.
-#[derive(Clone, Copy)]
-struct Sums {
-    whole: bool,
-    sums: [usize; 16],
-}
-
-// A wrapper is broken, or there are too many.
-fn broken() -> Sums
-    ensures { told result ≡ refuses_all 19 }
-{
-    let noughts = none();
-    Sums {
-        whole: false,
-        sums: noughts,
-    }
-}
-
-// The jobs of some wrappers added up, at most 200 of them.
-fn sum_up(jobs: &[u8]) -> Sums
+// The jobs of some wrappers added up, at most 200 of them; 19 where a wrapper is broken, or there are more.
+fn sum_up(jobs: &[u8]) -> Result<[usize; 16], Refusal>
     ensures { told result ≡ season jobs.now }
 {
     let mut sums = none();
     let mut left: usize = 200;
     let mut at: usize = 0;
+    // From wrapper to wrapper: where the next one starts only the one before says.
     while at < jobs.len() {
         if left == 0 {
-            return broken();
+            return Err(Refusal::NoSeason);
         }
-        let here = fields::reader::read_at(jobs, at);
-        let Found::Whole(tag, start, end) = here else {
-            return broken();
+        let Some(field) = fields::reader::read_at(jobs, at) else {
+            return Err(Refusal::NoSeason);
         };
-        if tag != 9 {
-            return broken();
+        if field.tag != 9 {
+            return Err(Refusal::NoSeason);
         }
-        add(&mut sums, &jobs[start..end]);
+        add(&mut sums, &jobs[field.start..field.end]);
         left -= 1;
-        at = end;
+        at = field.end;
     }
-    Sums {
-        whole: true,
-        sums: sums,
-    }
+    Ok(sums)
 }
 
-// Some figures, put at the front of a lent buffer.
-fn put_all<'a>(sums: &'a [usize], figures: &mut [usize])
-    requires { length sums.now ≤ length figures.old }
-    ensures { figures.new ≡ sums.now ++ drop (length sums.now) figures.old }
+// The season's totals of some wrapped jobs, put at the front of a lent buffer: 19, 14.
+fn put_totals(jobs: &[u8], figures: &mut [usize]) -> Result<(), Refusal>
+    ensures { (one_number result ≡ (season_in (season jobs.now) figures.old).number)
+        × (figures.new ≡ (season_in (season jobs.now) figures.old).figures) }
 {
-    let mut i: usize = 0;
-    while i < sums.len() {
-        figures[i] = sums[i];
-        i += 1;
+    let sums = sum_up(jobs)?;
+    if figures.len() < 16 {
+        return Err(Refusal::TooShort);
     }
+    figures[..16].copy_from_slice(&sums);
+    Ok(())
 }
 
 // The season's totals of some wrapped jobs, put at the front of a lent buffer: 256 more than how many figures they are; 19, and 14 where the buffer is too
-// short.
-pub fn totals<'a>(jobs: &'a [u8], figures: &mut [usize]) -> usize
+// short. One number, as a call from C has no other answer.
+#[tactic(auto, unfolding(crate::specs::Summed::one_number))]
+pub fn totals(jobs: &[u8], figures: &mut [usize]) -> usize
     ensures { (result ≡ (season_in (season jobs.now) figures.old).number)
         × (figures.new ≡ (season_in (season jobs.now) figures.old).figures) }
 {
-    let summed = sum_up(jobs);
-    if !summed.whole {
-        return 19;
+    match put_totals(jobs, figures) {
+        Ok(()) => 256 + 16,
+        Err(k) => usize::from(k.number()),
     }
-    if figures.len() < 16 {
-        return 14;
-    }
-    let sums = summed.sums;
-    put_all(&sums, figures);
-    256 + 16
 }

@@ -2,22 +2,15 @@
 ghost use Rattle.std.specs.Prelude.{◌≡◌};
 ghost use Rattle.season.specs.Heads.{head_in, fits};
 
-// A job of so many bytes, or no head of a wrapper.
-#[derive(Clone, Copy)]
-pub enum Head {
-    Job(usize),
-    Broken,
-}
-
-// The head that some bytes begin with.
-pub fn head_of(head: &[u8]) -> Head
+// The length of the job whose head some bytes begin with; none where they begin with no head of a wrapper.
+pub fn head_of(head: &[u8]) -> Option<usize>
     ensures { (result ≡ head_in head.now) × fits result }
 {
-    if head.len() < 3 {
-        return Head::Broken;
+    let [tag, high, low, ..] = head else {
+        return None;
+    };
+    if *tag != 9 {
+        return None;
     }
-    if head[0] != 9 {
-        return Head::Broken;
-    }
-    Head::Job(256 * fields::wide(head[1]) + fields::wide(head[2]))
+    Some(256 * usize::from(*high) + usize::from(*low))
 }

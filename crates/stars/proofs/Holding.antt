@@ -1,5 +1,5 @@
 -- The held stars, as the code comes by them. Assumes nothing.
-use Prim.Native.Nat.{ℕ, zero, suc, ◌+◌, ◌-◌, ◌%◌, ◌<◌, ◌≤◌}
+use Prim.Native.Nat.{ℕ, zero, suc, ◌+◌, ◌-◌, ◌<◌, ◌≤◌}
 use mathlib.Core.Path.{◌≡◌, refl, sym, ◌∙◌, ap}
 use mathlib.Core.Bool.{Bool, true, false, cond, not, ◌&&◌, ◌||◌}
 use mathlib.Core.List.{List, [], ◌∷◌}
@@ -14,31 +14,7 @@ use Rattle.stars.specs.Rooms.{all_from}
 use Rattle.stars.specs.Held.{to_at, entry_at, cells, end_of, start_of, held_star, stars_in, job_in, job_of, place_in, answers, star_answers}
 use Rattle.stars.proofs.EveryRoom.{test6_stars}
 
--- numbers past the end of an array
-pub past_end : (l : List ℕ) (k : ℕ) → length l ≤ k → 0 ≡ get_or l k 0
-past_end l k h = sym (get_or-eq_default l 0 h)
-
-pub to_past : (l : List ℕ) (k : ℕ) → length l ≤ k → (0 ≡ to_at l k) × (0 < 256)
-unfolding to_at
-to_past l k h = (rw (← past_end l k h), omega arith)
-
-pub to_here : (l : List ℕ) (k x : ℕ) → x ≡ get_or l k 0 → (x % 256 ≡ to_at l k) × (x % 256 < 256)
-unfolding to_at
-to_here l k x e = (rw e, omega arith)
-
 module _ (l : List ℕ) (most i : ℕ) where
-  pub end_past : length l ≤ i → 0 ≡ end_of l most i
-  unfolding end_of
-  end_past h = rw (← past_end l i h) (omega arith)
-
-  pub end_most : (x : ℕ) → x ≡ get_or l i 0 → most < x → most ≡ end_of l most i
-  unfolding end_of
-  end_most x e h = rw (← e) (omega arith)
-
-  pub end_here : (x : ℕ) → x ≡ get_or l i 0 → x ≤ most → x ≡ end_of l most i
-  unfolding end_of
-  end_here x e h = rw (← e) (omega arith)
-
   pub start_first : i ≡ 0 → 0 ≡ start_of l most i
   unfolding start_of
   start_first e = rw e
@@ -86,12 +62,6 @@ module _ (nbr kind : List ℕ) (v want : ℕ) where
   -- the test of one entry
   abbrev listed : ℕ → Bool
   listed k = eqb (to_at nbr k) v && eqb (get_or kind k 0) want
-
-  pub lists_yes : (x y k : ℕ) → x ≡ to_at nbr k → x ≡ v → y ≡ get_or kind k 0 → eqb y want ≡ listed k
-  lists_yes x y k e q f = rw (← e, ← f, eq-eqb x v q)
-
-  pub lists_no : (x k : ℕ) → x ≡ to_at nbr k → (x ≡ v → ⊥) → false ≡ listed k
-  lists_no x k e q = rw (← e, ne_eqb x v q)
 
   module _ (w : Bool) (end k : ℕ) where
     pub lists_here : (b : Bool) → b ≡ listed k → b ≡ true → k < end → lists (cells (end - k) k nbr kind) v want ≡ w → true ≡ w
@@ -281,7 +251,3 @@ job_stars h n e = rw e
 pub test6_held : (ends nbr kind : List ℕ) (n : ℕ) (r : Bool) → r ≡ all_from (star_answers (job_in n ends nbr kind)) 4 (job_in n ends nbr kind)
     → r ≡ test6 (job_in n ends nbr kind)
 test6_held ends nbr kind n r q = q ∙ sym (test6_stars (job_in n ends nbr kind))
-
--- the count asked with another number that is the same
-pub test6_counted : (ends nbr kind : List ℕ) (n m : ℕ) (r : Bool) → r ≡ test6 (job_in n ends nbr kind) → n ≡ m → r ≡ test6 (job_in m ends nbr kind)
-test6_counted ends nbr kind n m r q e = rw (← e) q

@@ -4,8 +4,7 @@ use mathlib.Core.Path.{◌≡◌, refl, ◌∙◌, ap}
 use mathlib.Core.Bool.{Bool, true, false, not, ◌&&◌}
 use mathlib.Core.List.{List, [], ◌∷◌}
 use native.Mathlib.Omega.{arith}
-use borrow.Author.Tests.{le-leb, lt-leb, eq-eqb, ne_eqb, not-true, not-false}
-use lib.Dec.{leb, eqb}
+use borrow.Author.Tests.{not-true, not-false}
 use lib.ListN.{length, get_or, get_or-eq_default, set, drop, replicate, length-set, length-drop, length-replicate}
 use lib.Seq.{sets, drop-cons}
 use Rattle.floor.specs.Lists.{all, any}
@@ -78,61 +77,33 @@ module _ (l : List ℕ) (n i m : ℕ) (em : m ≡ n) where
   unfolding size_at
   height_told x h e = rw (one_there h) e
 
--- the answers of `size_ok` and `is_larger`, as they come by them
-module _ (x y : ℕ) where
-  -- a width below 1 is none
-  pub no_width : x < 1 → false ≡ size_ok (size x y)
-  unfolding size_ok
-  no_width h = simp (lt-leb 1 x h)
-
-  -- a width over 15 is none
-  pub wide_width : 1 ≤ x → 15 < x → false ≡ size_ok (size x y)
-  unfolding size_ok
-  wide_width g h = simp (le-leb 1 x g, lt-leb x 15 h)
-
-  -- a height below 1 is none
-  pub no_height : 1 ≤ x → x ≤ 15 → y < 1 → false ≡ size_ok (size x y)
-  unfolding size_ok
-  no_height g k h = simp (le-leb 1 x g, le-leb x 15 k, lt-leb 1 y h)
-
-  -- else the height is asked for 15
-  pub by_height : 1 ≤ x → x ≤ 15 → 1 ≤ y → leb y 15 ≡ size_ok (size x y)
-  unfolding size_ok
-  by_height g k h = simp (le-leb 1 x g, le-leb x 15 k, le-leb 1 y h)
-
-  -- a width that is not 1 is larger
-  pub larger_width : (x ≡ 1 → ⊥) → true ≡ larger (size x y)
-  unfolding larger
-  larger_width n = rw (ne_eqb x 1 n)
-
-  -- else the height decides
-  pub larger_height : x ≡ 1 → not (eqb y 1) ≡ larger (size x y)
-  unfolding larger
-  larger_height e = rw (eq-eqb x 1 e)
-
 -- a question of every size
-module _ (l : List ℕ) (n i : ℕ) (w : Bool) (x y : ℕ) (ex : x ≡ get_or l (2 * i) 0) (ey : y ≡ get_or l (2 * i + 1) 0) where
+module _ (l : List ℕ) (n i : ℕ) (w : Bool) (x y : ℕ) (ex : x ≡ get_or l (2 * i + 0) 0) (ey : y ≡ get_or l (2 * i + 1) 0) where
+  -- the width stands first
+  front : x ≡ get_or l (2 * i) 0
+  front = ex ∙ (let z : 2 * i + 0 ≡ 2 * i = omega arith in rw z)
+
   -- where one size fails, the test of all fails
   pub each_false : (b : Bool) → b ≡ size_ok (size x y) → not b ≡ true → i < n → all size_ok (sizes_from (n - i) i l) ≡ w → false ≡ w
   unfolding all size_at
-  each_false b e t h inv = rw (sizes_more l n i h, ← ex, ← ey, ← e, not-true b t) at inv
+  each_false b e t h inv = rw (sizes_more l n i h, ← front, ← ey, ← e, not-true b t) at inv
 
   -- where it passes, those behind it are left
   pub each_next : (b : Bool) → b ≡ size_ok (size x y) → not b ≡ false → i < n → all size_ok (sizes_from (n - i) i l) ≡ w
       → all size_ok (sizes_from (n - (i + 1)) (i + 1) l) ≡ w
   unfolding all size_at
-  each_next b e t h inv = rw (sizes_more l n i h, ← ex, ← ey, ← e, not-false b t) at inv
+  each_next b e t h inv = rw (sizes_more l n i h, ← front, ← ey, ← e, not-false b t) at inv
 
   -- where one size is larger, some is
   pub some_true : (b : Bool) → b ≡ larger (size x y) → b ≡ true → i < n → any larger (sizes_from (n - i) i l) ≡ w → true ≡ w
   unfolding any size_at
-  some_true b e t h inv = rw (sizes_more l n i h, ← ex, ← ey, ← e, t) at inv
+  some_true b e t h inv = rw (sizes_more l n i h, ← front, ← ey, ← e, t) at inv
 
   -- where it is not, those behind it are left
   pub some_next : (b : Bool) → b ≡ larger (size x y) → b ≡ false → i < n → any larger (sizes_from (n - i) i l) ≡ w
       → any larger (sizes_from (n - (i + 1)) (i + 1) l) ≡ w
   unfolding any size_at
-  some_next b e t h inv = rw (sizes_more l n i h, ← ex, ← ey, ← e, t) at inv
+  some_next b e t h inv = rw (sizes_more l n i h, ← front, ← ey, ← e, t) at inv
 
 module _ (l : List ℕ) (n i : ℕ) (w : Bool) where
   -- behind the last there is none that could fail

@@ -4,6 +4,7 @@ use Rattle.std.proofs.lemmas.List.Edits.{sets}
 use Rattle.floor.specs.Lists.{all}
 use Rattle.floor.specs.Jobs.{Entry, Star, Link, links_to, Job, opposite, star_of, lists}
 use Rattle.stars.specs.declared.Stars.{Stars}
+use Rattle.stars.specs.declared.held.Held.{Held}
 
 -- the neighbour at a place; one byte of it counts
 unfoldable pub to_at : List ℕ → ℕ → ℕ
@@ -53,6 +54,10 @@ stars_in (suc m) i ends nbr kind = held_star ends nbr kind i ∷ stars_in m (suc
 -- THE JOB OF SO MANY STARS that lie one behind the other, whatever stands there
 abbrev pub job_in : ℕ → List ℕ → List ℕ → List ℕ → Job
 job_in count ends nbr kind = stars_in count 0 ends nbr kind
+
+-- the job of stars as they are lent
+abbrev pub job_held : Held → Job
+job_held h = job_in h.count h.ends.now h.nbr.now h.kind.now
 
 -- THE JOB THAT STARS HOLD
 unfoldable pub job_of : Stars → Job

@@ -1,7 +1,7 @@
 -- An entry, and what is asked of entries, by name. Assumes nothing.
-use Rattle.std.specs.Prelude.{ℕ, ◌+◌, Bool, cond, not, List, length, get_or, drop, eqb}
+use Rattle.std.specs.Prelude.{ℕ, Bool, cond, not, List, length, get_or, eqb}
 use Rattle.floor.specs.Lists.{all, keep}
-use Rattle.floor.specs.Jobs.{Entry, Link, entries, changes, goes_on}
+use Rattle.floor.specs.Jobs.{Entry, Link, changes, goes_on}
 
 -- the entry of a neighbour and its kind
 abbrev pub pair : ℕ → ℕ → Entry
@@ -11,13 +11,9 @@ pair v k = record { to = v; kind = k }
 abbrev pub apart : Entry → Entry → Bool
 apart d e = not (eqb d.to e.to)
 
--- the entry at a place of a star's bytes
-abbrev pub here : List ℕ → ℕ → Entry
-here s i = pair (get_or s i 0) (get_or s (i + 1) 0)
-
--- the entry behind the one at a place of a star's bytes; behind the last the first
-unfoldable pub next_at : List ℕ → ℕ → Entry
-next_at s i = get_or (entries (drop (i + 2) s)) 0 (here s 0)
+-- the first entry of some bytes
+abbrev pub here : List ℕ → Entry
+here s = pair (get_or s 0 0) (get_or s 1 0)
 
 -- two kinds, one behind the other
 abbrev pub kinds_link : ℕ → ℕ → Link

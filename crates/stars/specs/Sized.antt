@@ -3,6 +3,7 @@ use Rattle.std.specs.Prelude.{ℕ, zero, suc, ◌+◌, ◌*◌, List, [], ◌∷
 use Rattle.std.proofs.lemmas.List.Edits.{sets}
 use Rattle.floor.specs.Jobs.{Size, Sizes, size_bytes}
 use Rattle.stars.specs.declared.Sizes.{Sizes as HeldSizes}
+use Rattle.stars.specs.declared.least.Least.{Least}
 
 -- the size of a width and a height
 abbrev pub size : ℕ → ℕ → Size
@@ -20,6 +21,10 @@ sizes_from (suc m) i l = size_at l i ∷ sizes_from m (suc i) l
 -- THE SIZES OF SO MANY ROOMS that lie one behind the other, whatever stands there
 abbrev pub sizes_in : ℕ → List ℕ → Sizes
 sizes_in told l = sizes_from told 0 l
+
+-- the sizes as they are lent
+abbrev pub sizes_lent : Least → Sizes
+sizes_lent z = sizes_in z.told z.list.now
 
 -- THE SIZES THAT ARE HELD
 unfoldable pub sizes_of : HeldSizes → Sizes

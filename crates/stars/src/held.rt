@@ -1,9 +1,18 @@
-// The held stars: where each starts and ends, its entries, and test 6. A number past the end of an array counts as 0.
+// The held stars as they are lent: where each starts and ends, its entries, and test 6. A number past the end of a slice counts as 0.
 ghost use Rattle.std.specs.Prelude.{◌≡◌, ◌&&◌, ◌+◌, ◌-◌, ◌≤◌, ◌<◌, eqb, length, get_or};
 ghost use Rattle.floor.specs.Jobs.{star_of, names, lists, test6};
-ghost use Rattle.stars.specs.Held.{to_at, entry_at, cells, end_of, start_of, held_star, job_in, no_stars, place_in, place_after, answers, star_answers};
+ghost use Rattle.stars.specs.Held.{to_at, entry_at, cells, end_of, start_of, held_star, job_held, no_stars, place_in, place_after, answers, star_answers};
 
 use crate::Stars;
+
+// The stars of a job as workers take them: how many there are, where each ends, and the neighbours and kinds, one star behind the other.
+#[derive(Clone, Copy)]
+pub struct Held<'a> {
+    pub count: usize,
+    pub ends: &'a [u16],
+    pub nbr: &'a [u16],
+    pub kind: &'a [u8],
+}
 
 // No stars.
 pub fn none_held() -> Stars
@@ -18,74 +27,12 @@ pub fn none_held() -> Stars
 }
 
 // Where a star ends, of stars that lie in so many places at most.
+#[tactic(auto, unfolding(crate::specs::Held::end_of))]
 pub fn end_of(ends: &[u16], most: usize, i: usize) -> usize
     ensures { (result ≡ end_of ends.now most i) × (result ≤ most) }
 {
-    if ends.len() <= i {
-        return 0;
-    }
-    let end = fields::number(ends[i]);
-    if most < end {
-        return most;
-    }
-    end
-}
-
-// Where a star starts: where the one before it ends.
-pub fn start_of(ends: &[u16], most: usize, i: usize) -> usize
-    ensures { (result ≡ start_of ends.now most i) × (result ≤ most) }
-{
-    if i == 0 {
-        return 0;
-    }
-    end_of(ends, most, i - 1)
-}
-
-// How many entries a star has.
-pub fn star_length<'a>(ends: &'a [u16], nbr: &'a [u16], i: usize) -> usize
-    ensures { (result ≡ end_of ends.now (length nbr.now) i - start_of ends.now (length nbr.now) i)
-        × (start_of ends.now (length nbr.now) i + result ≤ length nbr.now) }
-{
-    let start = start_of(ends, nbr.len(), i);
-    let end = end_of(ends, nbr.len(), i);
-    if end < start {
-        return 0;
-    }
-    end - start
-}
-
-// The neighbour at a place.
-pub fn to_at(nbr: &[u16], k: usize) -> usize
-    ensures { (result ≡ to_at nbr.now k) × (result < 256) }
-{
-    if nbr.len() <= k {
-        return 0;
-    }
-    fields::number(nbr[k]) % 256
-}
-
-// The kind at a place.
-pub fn kind_at(kind: &[u8], k: usize) -> u8
-    ensures { result ≡ get_or kind.now k 0 }
-{
-    if kind.len() <= k {
-        return 0;
-    }
-    kind[k]
-}
-
-// The first place, from one to an end, whose entry names the vertex; a place no smaller than the end where none does.
-pub fn place_in(nbr: &[u16], from: usize, end: usize, v: usize) -> usize
-    ensures { result ≡ place_in (end - from) from nbr.now v }
-{
-    let mut k = from;
-    while k < end {
-        if to_at(nbr, k) == v {
-            return k;
-        }
-        k += 1;
-    }
-    k
+    let end = ends.get(i).copied().unwrap_or(0);
+    usize::from(end).min(most)
 }
 
 // The place behind one of a star that lies from a place to an end; behind the last the first.
@@ -101,153 +48,147 @@ pub fn place_after(from: usize, end: usize, k: usize) -> usize
     from
 }
 
-// Whether the star of a vertex names another; a number that is no room's has no star.
-pub fn star_names<'a>(
-    ends: &'a [u16],
-    nbr: &'a [u16],
-    kind: &'a [u8],
-    count: usize,
-    v: usize,
-    u: usize,
-) -> bool
-    ensures { result ≡ names (star_of (job_in count ends.now nbr.now kind.now) v) u }
-{
-    if v < 4 {
-        return false;
+impl<'a> Held<'a> {
+    // Where star i ends.
+    pub fn end_of(&self, i: usize) -> usize
+        ensures { (result ≡ end_of self.now.ends.now (length self.now.nbr.now) i) × (result ≤ length self.now.nbr.now) }
+    {
+        end_of(self.ends, self.nbr.len(), i)
     }
-    if count <= v - 4 {
-        return false;
-    }
-    let from = start_of(ends, nbr.len(), v - 4);
-    let end = end_of(ends, nbr.len(), v - 4);
-    place_in(nbr, from, end, u) < end
-}
 
-// Whether the entry at a place names the vertex with the kind.
-fn entry_lists<'a>(nbr: &'a [u16], kind: &'a [u8], k: usize, v: usize, want: u8) -> bool
-    ensures { result ≡ (eqb (to_at nbr.now k) v && eqb (get_or kind.now k 0) want) }
-{
-    if to_at(nbr, k) == v {
-        return kind_at(kind, k) == want;
+    // Where star i starts: where the one before it ends.
+    pub fn start_of(&self, i: usize) -> usize
+        ensures { (result ≡ start_of self.now.ends.now (length self.now.nbr.now) i) × (result ≤ length self.now.nbr.now) }
+    {
+        if i == 0 {
+            return 0;
+        }
+        self.end_of(i - 1)
     }
-    false
-}
 
-// Whether some entry from a place to an end names the vertex with the kind.
-fn lists_in<'a>(nbr: &'a [u16], kind: &'a [u8], from: usize, end: usize, v: usize, want: u8) -> bool
-    ensures { result ≡ lists (cells (end - from) from nbr.now kind.now) v want }
-{
-    let mut k = from;
-    while k < end {
-        if entry_lists(nbr, kind, k, v, want) {
+    // How many entries star i has.
+    pub fn star_length(&self, i: usize) -> usize
+        ensures { (result ≡ end_of self.now.ends.now (length self.now.nbr.now) i - start_of self.now.ends.now (length self.now.nbr.now) i)
+            × (start_of self.now.ends.now (length self.now.nbr.now) i + result ≤ length self.now.nbr.now) }
+    {
+        self.end_of(i).saturating_sub(self.start_of(i))
+    }
+
+    // The neighbour at a place.
+    #[tactic(auto, unfolding(crate::specs::Held::to_at))]
+    pub fn to_at(&self, k: usize) -> usize
+        ensures { (result ≡ to_at self.now.nbr.now k) × (result < 256) }
+    {
+        usize::from(self.nbr.get(k).copied().unwrap_or(0)) % 256
+    }
+
+    // The kind at a place.
+    pub fn kind_at(&self, k: usize) -> u8
+        ensures { result ≡ get_or self.now.kind.now k 0 }
+    {
+        self.kind.get(k).copied().unwrap_or(0)
+    }
+
+    // The first place, from one to an end, whose entry names the vertex; a place no smaller than the end where none does.
+    pub fn place_in(&self, from: usize, end: usize, v: usize) -> usize
+        ensures { result ≡ place_in (end - from) from self.now.nbr.now v }
+    {
+        for k in from..end {
+            if self.to_at(k) == v {
+                return k;
+            }
+        }
+        from.max(end)
+    }
+
+    // Whether the star of a vertex names another; a number that is no room's has no star.
+    pub fn names(&self, v: usize, u: usize) -> bool
+        ensures { result ≡ names (star_of (job_held self.now) v) u }
+    {
+        if v < 4 {
+            return false;
+        }
+        if self.count <= v - 4 {
+            return false;
+        }
+        let end = self.end_of(v - 4);
+        self.place_in(self.start_of(v - 4), end, u) < end
+    }
+
+    // Whether the entry at a place names the vertex with the kind.
+    fn entry_lists(&self, k: usize, v: usize, want: u8) -> bool
+        ensures { result ≡ (eqb (to_at self.now.nbr.now k) v && eqb (get_or self.now.kind.now k 0) want) }
+    {
+        self.to_at(k) == v && self.kind_at(k) == want
+    }
+
+    // Whether some entry from a place to an end names the vertex with the kind.
+    fn lists_in(&self, from: usize, end: usize, v: usize, want: u8) -> bool
+        ensures { result ≡ lists (cells (end - from) from self.now.nbr.now self.now.kind.now) v want }
+    {
+        for k in from..end {
+            if self.entry_lists(k, v, want) {
+                return true;
+            }
+        }
+        false
+    }
+
+    // Whether the star of a vertex lists another with the kind; a number that is no room's has no star.
+    pub fn lists(&self, v: usize, u: usize, want: u8) -> bool
+        ensures { result ≡ lists (star_of (job_held self.now) v) u want }
+    {
+        if v < 4 {
+            return false;
+        }
+        if self.count <= v - 4 {
+            return false;
+        }
+        self.lists_in(self.start_of(v - 4), self.end_of(v - 4), u, want)
+    }
+
+    // Whether the entry at a place of a room's star is answered by the neighbour's star.
+    fn entry_answered(&self, u: usize, k: usize) -> bool
+        ensures { result ≡ answers (job_held self.now) u (entry_at self.now.nbr.now self.now.kind.now k) }
+    {
+        let v = self.to_at(k);
+        if v < 4 {
             return true;
         }
-        k += 1;
+        self.lists(v, u, crate::kinds::opposite_of(self.kind_at(k)))
     }
-    false
-}
 
-// Whether the star of a vertex lists another with the kind; a number that is no room's has no star.
-pub fn star_lists<'a>(
-    ends: &'a [u16],
-    nbr: &'a [u16],
-    kind: &'a [u8],
-    count: usize,
-    v: usize,
-    u: usize,
-    want: u8,
-) -> bool
-    ensures { result ≡ lists (star_of (job_in count ends.now nbr.now kind.now) v) u want }
-{
-    if v < 4 {
-        return false;
-    }
-    if count <= v - 4 {
-        return false;
-    }
-    let from = start_of(ends, nbr.len(), v - 4);
-    let end = end_of(ends, nbr.len(), v - 4);
-    lists_in(nbr, kind, from, end, u, want)
-}
-
-// Whether the entry at a place of a room's star is answered by the neighbour's star.
-fn entry_answered<'a>(
-    ends: &'a [u16],
-    nbr: &'a [u16],
-    kind: &'a [u8],
-    count: usize,
-    u: usize,
-    k: usize,
-) -> bool
-    ensures { result ≡ answers (job_in count ends.now nbr.now kind.now) u
-        (entry_at nbr.now kind.now k) }
-{
-    let v = to_at(nbr, k);
-    if v < 4 {
-        return true;
-    }
-    let want = crate::kinds::opposite_of(kind_at(kind, k));
-    star_lists(ends, nbr, kind, count, v, u, want)
-}
-
-// Whether every entry from a place to an end, of a room's star, is answered.
-fn part_answered<'a>(
-    ends: &'a [u16],
-    nbr: &'a [u16],
-    kind: &'a [u8],
-    count: usize,
-    u: usize,
-    from: usize,
-    end: usize,
-) -> bool
-    ensures { result ≡ star_answers (job_in count ends.now nbr.now kind.now) u
-        (cells (end - from) from nbr.now kind.now) }
-{
-    let mut k = from;
-    while k < end {
-        if !entry_answered(ends, nbr, kind, count, u, k) {
-            return false;
+    // Whether every entry from a place to an end, of a room's star, is answered.
+    fn part_answered(&self, u: usize, from: usize, end: usize) -> bool
+        ensures { result ≡ star_answers (job_held self.now) u (cells (end - from) from self.now.nbr.now self.now.kind.now) }
+    {
+        for k in from..end {
+            if !self.entry_answered(u, k) {
+                return false;
+            }
         }
-        k += 1;
+        true
     }
-    true
-}
 
-// Whether every entry of a star is answered.
-fn star_answered<'a>(
-    ends: &'a [u16],
-    nbr: &'a [u16],
-    kind: &'a [u8],
-    count: usize,
-    i: usize,
-) -> bool
-    requires { i < 65536 }
-    ensures { result ≡ star_answers (job_in count ends.now nbr.now kind.now) (4 + i)
-        (held_star ends.now nbr.now kind.now i) }
-{
-    let from = start_of(ends, nbr.len(), i);
-    let end = end_of(ends, nbr.len(), i);
-    part_answered(ends, nbr, kind, count, 4 + i, from, end)
-}
+    // Whether every entry of star i is answered.
+    #[tactic(auto, using(crate::proofs::Holding::star_whole))]
+    fn star_answered(&self, i: usize) -> bool
+        requires { i < 65536 }
+        ensures { result ≡ star_answers (job_held self.now) (4 + i) (held_star self.now.ends.now self.now.nbr.now self.now.kind.now i) }
+    {
+        self.part_answered(4 + i, self.start_of(i), self.end_of(i))
+    }
 
-// Whether every entry of each of so many stars is answered.
-fn all_answered<'a>(ends: &'a [u16], nbr: &'a [u16], kind: &'a [u8], count: usize) -> bool
-    requires { count < 65536 }
-    ensures { result ≡ test6 (job_in count ends.now nbr.now kind.now) }
-{
-    let mut i: usize = 0;
-    while i < count {
-        if !star_answered(ends, nbr, kind, count, i) {
-            return false;
+    // Test 6: where a room lists another, that one lists it with the opposite kind.
+    pub fn answered(&self) -> bool
+        requires { self.now.count < 65536 }
+        ensures { result ≡ test6 (job_held self.now) }
+    {
+        for i in 0..self.count {
+            if !self.star_answered(i) {
+                return false;
+            }
         }
-        i += 1;
+        true
     }
-    true
-}
-
-// Test 6: where a room lists another, that one lists it with the opposite kind.
-pub fn answered<'a>(ends: &'a [u16], nbr: &'a [u16], kind: &'a [u8], count: u16) -> bool
-    ensures { result ≡ test6 (job_in count ends.now nbr.now kind.now) }
-{
-    all_answered(ends, nbr, kind, fields::number(count))
 }

@@ -1,4 +1,5 @@
 // Kinds: 0 above, 1 to the left, 2 below, 3 to the right.
+// Numbers and no enum: a held star may carry any byte as a kind, and constant arrays over them are asked for by name.
 ghost use Rattle.std.specs.Prelude.{◌≡◌};
 ghost use Rattle.floor.specs.Jobs.{opposite, frame_kind};
 
@@ -10,7 +11,7 @@ const FRAME_KIND: [u8; 4] = [0, 1, 2, 3];
 pub fn opposite_of(kind: u8) -> u8
     ensures { result ≡ opposite kind }
 {
-    let k = fields::wide(kind);
+    let k = usize::from(kind);
     if k < 4 { OPPOSITE[k] } else { 0 }
 }
 

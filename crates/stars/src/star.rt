@@ -1,16 +1,17 @@
 // The tests of one star's bytes, pairs of neighbour and kind. A byte that stands alone at the end is no pair.
-ghost use Rattle.std.specs.Prelude.{◌≡◌, ◌+◌, ◌≤◌, ◌<◌, length, drop};
+ghost use Rattle.std.specs.Prelude.{◌≡◌, ◌+◌, ◌≤◌, get_or};
 ghost use Rattle.floor.specs.Lists.{all, pairwise};
 ghost use Rattle.floor.specs.Lists.Laws.{bit};
 ghost use Rattle.floor.specs.Jobs.{entries, entry_ok, links, changes, goes_on, star_ok};
-ghost use Rattle.stars.specs.Pairs.{pair, apart, next_at, kinds_link, changes_in};
+ghost use Rattle.stars.specs.Pairs.{pair, apart, kinds_link, changes_in};
 
 // Whether an entry of a room may stand in its star.
+#[tactic(auto, unfolding(floor::specs::Jobs::entry_ok))]
 pub fn entry_ok(rooms: u8, room: usize, to: u8, kind: u8) -> bool
     ensures { result ≡ entry_ok rooms room (pair to kind) }
 {
-    let v = fields::wide(to);
-    if fields::wide(rooms) + 3 < v {
+    let v = usize::from(to);
+    if usize::from(rooms) + 3 < v {
         return false;
     }
     if v == room {
@@ -29,76 +30,70 @@ pub fn entry_ok(rooms: u8, room: usize, to: u8, kind: u8) -> bool
 pub fn entries_ok(star: &[u8], rooms: u8, room: usize) -> bool
     ensures { result ≡ all (entry_ok rooms room) (entries star.now) }
 {
-    let mut i: usize = 0;
-    while i + 1 < star.len() {
-        if !entry_ok(rooms, room, star[i], star[i + 1]) {
+    let mut rest = star;
+    'entries: while let [to, kind, others @ ..] = rest {
+        if !entry_ok(rooms, room, *to, *kind) {
             return false;
         }
-        i += 2;
+        rest = others;
     }
     true
 }
 
-// The kind of the entry behind the one at a place; behind the last that of the first.
-fn next_kind(star: &[u8], i: usize) -> u8
-    requires { i + 1 < length star.now }
-    ensures { result ≡ (next_at star.now i).kind }
-{
-    if i + 3 < star.len() {
-        return star[i + 3];
-    }
-    star[1]
-}
-
 // Whether a kind stays from one entry to the next, or changes to the one that comes after it.
+#[tactic(auto, unfolding(floor::specs::Jobs::goes_on, floor::specs::Jobs::changes))]
 fn goes_on(kind: u8, next: u8) -> bool
     ensures { result ≡ goes_on (kinds_link kind next) }
 {
-    if kind == next {
-        return true;
-    }
-    fields::wide(next) == (fields::wide(kind) + 1) % 4
+    kind == next || usize::from(next) == (usize::from(kind) + 1) % 4
 }
 
 // One for a change of kind, nothing where it stays.
+#[tactic(auto, unfolding(floor::specs::Jobs::changes))]
 fn one_change(kind: u8, next: u8) -> usize
     ensures { (result ≡ bit (changes (kinds_link kind next))) × (result ≤ 1) }
 {
-    if kind == next {
-        return 0;
+    usize::from(kind != next)
+}
+
+// The kind of the first of some entries, or a kind that stands in for it where there is none.
+fn first_kind(bytes: &[u8], none: u8) -> u8
+    ensures { result ≡ (get_or (entries bytes.now) 0 (pair 0 none)).kind }
+{
+    match bytes {
+        [_, kind, ..] => *kind,
+        _ => none,
     }
-    1
 }
 
 // How often the kind changes once round the star, back to the start; 0 where it changes to another than the next.
 fn changes_round(star: &[u8]) -> usize
     ensures { result ≡ changes_in (links (entries star.now)) }
 {
+    let first = first_kind(star, 0);
     let mut many: usize = 0;
-    let mut i: usize = 0;
-    while i + 1 < star.len() {
-        let kind = star[i + 1];
-        let next = next_kind(star, i);
-        if !goes_on(kind, next) {
+    let mut rest = star;
+    'round: while let [_, kind, others @ ..] = rest {
+        let next = first_kind(others, first);
+        if !goes_on(*kind, next) {
             return 0;
         }
-        many += one_change(kind, next);
-        i += 2;
+        many += one_change(*kind, next);
+        rest = others;
     }
     many
 }
 
-// Whether the entry of a neighbour stands apart from those that come at a place and behind it.
-fn apart_from(star: &[u8], to: u8, kind: u8, from: usize) -> bool
-    requires { from ≤ length star.now }
-    ensures { result ≡ all (apart (pair to kind)) (entries (drop from star.now)) }
+// Whether the entry of a neighbour stands apart from some others.
+fn apart_from(others: &[u8], to: u8, kind: u8) -> bool
+    ensures { result ≡ all (apart (pair to kind)) (entries others.now) }
 {
-    let mut j = from;
-    while j + 1 < star.len() {
-        if to == star[j] {
+    let mut rest = others;
+    'others: while let [other, _, behind @ ..] = rest {
+        if to == *other {
             return false;
         }
-        j += 2;
+        rest = behind;
     }
     true
 }
@@ -107,12 +102,12 @@ fn apart_from(star: &[u8], to: u8, kind: u8, from: usize) -> bool
 fn none_twice(star: &[u8]) -> bool
     ensures { result ≡ pairwise apart (entries star.now) }
 {
-    let mut i: usize = 0;
-    while i + 1 < star.len() {
-        if !apart_from(star, star[i], star[i + 1], i + 2) {
+    let mut rest = star;
+    'entries: while let [to, kind, others @ ..] = rest {
+        if !apart_from(others, *to, *kind) {
             return false;
         }
-        i += 2;
+        rest = others;
     }
     true
 }

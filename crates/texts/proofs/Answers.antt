@@ -1,5 +1,5 @@
 -- Whole answers as text, as the code comes by them. Assumes nothing.
-use Prim.Native.Nat.{ℕ, ◌+◌, ◌*◌, ◌≤◌, ◌<◌}
+use Prim.Native.Nat.{ℕ, ◌*◌, ◌≤◌, ◌<◌}
 use mathlib.Core.Path.{◌≡◌, sym, ap, ◌∙◌}
 use mathlib.Core.Bool.{true, false, cond}
 use mathlib.Core.List.{List, [], ◌∷◌, ◌++◌}
@@ -8,6 +8,7 @@ use borrow.Author.Tests.{le-leb, lt-leb}
 use lib.Dec.{leb}
 use lib.ListN.{length}
 use lib.Seq.{sets}
+use Rattle.std.specs.Prelude.{Result, Ok, Err}
 use Rattle.floor.specs.Jobs.{SizedJob}
 use Rattle.floor.specs.Plans.{Plan, Answer, refused, held}
 use Rattle.floor.specs.Registers.{Partition}
@@ -17,15 +18,13 @@ use Rattle.floor.specs.Calls.Sound.{Sound}
 use Rattle.floor.proofs.Calls.Sound.{load_held as loaded_sound}
 use Rattle.floor.specs.Quoted.{plain}
 use Rattle.floor.specs.Texts.{line, refused_word, too_long, plan_text, answer_text, listing, wall_lines, walls_text, walls_listing, cut_lines, cuts_text, cuts_listing}
-use Rattle.drawing.specs.declared.Answer.TheVariants.{Drawn, Refused}
-use Rattle.drawing.specs.declared.Plan.{Plan as HeldPlan}
-use Rattle.drawing.specs.Rects.{plan_from, plan_in}
-use Rattle.drawing.specs.Drawn.{said}
-use Rattle.drawing.proofs.Corollaries.{plan_held}
+use Rattle.refusals.specs.declared.Refusal.{Refusal}
+use Rattle.refusals.specs.Numbers.{number_of}
+use Rattle.drawing.specs.Rects.{plan_in}
 use Rattle.registers.specs.Kept.{walls_in}
 use Rattle.registers.proofs.Corollaries.{walls_held}
-use Rattle.board.specs.declared.Planned.{Planned}
-use Rattle.board.specs.Boards.{held_job, Plans}
+use Rattle.board.specs.declared.Board.{Board as HeldBoard}
+use Rattle.board.specs.Boards.{held_job, said, Plans}
 use Rattle.board.proofs.Corollaries.{planned_register, planned_few}
 use Rattle.letters.specs.Puts.{Puts}
 use Rattle.letters.proofs.Rows.{front_put}
@@ -59,21 +58,21 @@ module _ (bs : List ℕ) (text : Answer → List ℕ) where
   long : 8192 < length bs → printed ≡ too_long
   long h = let z : leb (length bs) 8192 ≡ false = lt-leb (length bs) 8192 h in rw z
 
-  module _ (l : length bs ≤ 8192) (q : Planned) (p : Plans q (load bs)) where
+  module _ (l : length bs ≤ 8192) (q : Result HeldBoard Refusal) (p : Plans q (load bs)) where
     -- a job that is drawn: the text of its job and plan
-    drawn : q.answer ≡ Drawn → printed ≡ text (held (held_job q.board) (plan_in q.board.plan))
+    drawn : (b : HeldBoard) → q ≡ Ok b → printed ≡ text (held (held_job b) (plan_in b.plan))
     unfolding said
-    drawn d =
+    drawn b d =
         let z : leb (length bs) 8192 ≡ true = le-leb (length bs) 8192 l in
-        let h : load bs ≡ held (held_job q.board) (plan_in q.board.plan) = sym (rw d at p.says) in
+        let h : load bs ≡ held (held_job b) (plan_in b.plan) = sym (rw d at p.says) in
         rw (z, h)
 
     -- a job that is refused: the text of the refusal
-    undrawn : (k : ℕ) → q.answer ≡ Refused k → printed ≡ text (refused k)
+    undrawn : (k : Refusal) (n : ℕ) → n ≡ number_of k → q ≡ Err k → printed ≡ text (refused n)
     unfolding said
-    undrawn k d =
+    undrawn k n e d =
         let z : leb (length bs) 8192 ≡ true = le-leb (length bs) 8192 l in
-        let h : load bs ≡ refused k = sym (rw d at p.says) in
+        let h : load bs ≡ refused n = rw e (sym (rw d at p.says)) in
         rw (z, h)
 
 -- each of them
@@ -93,58 +92,58 @@ module _ (bs : List ℕ) where
   unfolding cuts_listing
   long_cuts = long bs cuts_text
 
-  module _ (l : length bs ≤ 8192) (q : Planned) (p : Plans q (load bs)) where
-    -- the held plan, by its numbers
-    abbrev plan : HeldPlan
-    plan = q.board.plan
+  module _ (l : length bs ≤ 8192) (q : Result HeldBoard Refusal) (p : Plans q (load bs)) where
+    -- a job that is drawn
+    module _ (b : HeldBoard) (d : q ≡ Ok b) where
+      -- its job and plan are what loading it holds
+      loaded : load bs ≡ held (held_job b) (plan_in b.plan)
+      unfolding said
+      loaded = sym (rw d at p.says)
 
-    -- a job that is drawn: the text of its plan
-    pub plan_text_lem : q.answer ≡ Drawn → listing bs ≡ plan_text (plan_from plan.width plan.height (plan.rooms + 4) plan.rects)
-    unfolding listing answer_text
-    plan_text_lem d = drawn bs answer_text l q p d ∙ ap plan_text (sym (plan_held plan))
+      -- the walls that are kept, by their numbers
+      abbrev walls : List Partition
+      walls = walls_in b.register.uprights b.register.many 0 b.register.rows
 
-    -- the walls that are kept, by their numbers
-    abbrev walls : List Partition
-    walls = walls_in q.board.register.uprights q.board.register.many 0 q.board.register.rows
+      -- for the joiner, at the front of the page: a line for each wall that is kept
+      pub walls_text_lem : (o x : List ℕ) (r : ℕ) → length o ≡ 8192 → Puts o 0 (wall_lines walls) x r × (length (wall_lines walls) ≤ 30 * b.register.many)
+          → Fronts o (walls_listing bs) x r
+      unfolding walls_listing walls_text
+      walls_text_lem o x r e (puts, short) =
+          let h : Plans (Ok b) (load bs) = rw d at p in
+          let t : wall_lines walls ≡ walls_listing bs
+          = ap (λ (ws : List Partition). wall_lines ws) (walls_held b.register ∙ planned_register bs b h) ∙ sym (drawn bs walls_text l q p b d) in
+          rw t at (front_put o (wall_lines walls) x r puts e (omega (arith, short, planned_few bs b h)))
 
-    -- and for the joiner, at the front of the page: a line for each wall that is kept
-    pub walls_text_lem : (o x : List ℕ) (r : ℕ) → length o ≡ 8192 → Puts o 0 (wall_lines walls) x r × (length (wall_lines walls) ≤ 30 * q.board.register.many)
-        → q.answer ≡ Drawn → Fronts o (walls_listing bs) x r
-    unfolding walls_listing walls_text
-    walls_text_lem o x r e (puts, short) d =
-        let t : wall_lines walls ≡ walls_listing bs
-        = ap (λ (ws : List Partition). wall_lines ws) (walls_held q.board.register ∙ planned_register bs q p d) ∙ sym (drawn bs walls_text l q p d) in
-        rw t at (front_put o (wall_lines walls) x r puts e (omega (arith, short, planned_few bs q p d)))
+      -- its plan, as it is lent
+      module _ (a : Plan) (ea : a ≡ plan_in b.plan) where
+        -- for the listing: the text of the plan
+        pub plan_text_lem : listing bs ≡ plan_text a
+        unfolding listing answer_text
+        plan_text_lem = drawn bs answer_text l q p b d ∙ ap plan_text (sym ea)
 
-    -- the held plan, as its numbers say
-    abbrev drawn_plan : Plan
-    drawn_plan = plan_from plan.width plan.height (plan.rooms + 4) plan.rects
+        -- and for the contractor, at the front of the page: the lines of its cuts
+        pub cuts_text_lem : (o x : List ℕ) (r : ℕ) → length o ≡ 8192 → ((j : SizedJob) → Sound j a → Puts o 0 (cut_lines (plan_tree a)) x r)
+            → Fronts o (cuts_listing bs) x r
+        unfolding cuts_listing cuts_text
+        cuts_text_lem o x r e puts =
+            let s : Sound (held_job b) a = rw ea (loaded_sound bs _ _ loaded).1 in
+            let t : cut_lines (plan_tree a) ≡ cuts_listing bs
+            = ap (λ (c : Plan). cut_lines (plan_tree c)) ea ∙ sym (drawn bs cuts_text l q p b d) in
+            rw t at (front_put o (cut_lines (plan_tree a)) x r (puts _ s) e (omega (arith, cuts_short _ _ s)))
 
-    -- what is held of a job that is drawn is sound
-    drawn_sound : q.answer ≡ Drawn → Sound (held_job q.board) drawn_plan
-    unfolding said
-    drawn_sound d = rw (plan_held plan) (loaded_sound bs _ _ (sym (rw d at p.says))).1
+    -- a job that is refused, the text of the refusal at the front of the page
+    module _ (k : Refusal) (d : q ≡ Err k) (n : ℕ) (en : n ≡ number_of k) (o x : List ℕ) (r : ℕ) (e : Fronts o (answer_text (refused n)) x r) where
+      -- for the listing
+      pub refusal_text : Fronts o (listing bs) x r
+      unfolding listing
+      refusal_text = rw (undrawn bs answer_text l q p k n en d) e
 
-    -- and for the contractor, at the front of the page: the lines of its cuts
-    pub cuts_text_lem : (o x : List ℕ) (r : ℕ) → length o ≡ 8192 → ((j : SizedJob) → Sound j drawn_plan → Puts o 0 (cut_lines (plan_tree drawn_plan)) x r)
-        → q.answer ≡ Drawn → Fronts o (cuts_listing bs) x r
-    unfolding cuts_listing cuts_text
-    cuts_text_lem o x r e puts d =
-        let s = drawn_sound d in
-        let t : cut_lines (plan_tree drawn_plan) ≡ cuts_listing bs = ap (λ (a : Plan). cut_lines (plan_tree a)) (plan_held plan) ∙ sym (drawn bs cuts_text l q p d) in
-        rw t at (front_put o (cut_lines (plan_tree drawn_plan)) x r (puts _ s) e (omega (arith, cuts_short _ _ s)))
+      -- for the joiner
+      pub refusal_walls : Fronts o (walls_listing bs) x r
+      unfolding walls_listing walls_text
+      refusal_walls = rw (undrawn bs walls_text l q p k n en d) e
 
-    -- a job that is refused: the text of the refusal, at the front of the page
-    pub refusal_text : (o x : List ℕ) (k r : ℕ) → Fronts o (answer_text (refused k)) x r → q.answer ≡ Refused k → Fronts o (listing bs) x r
-    unfolding listing
-    refusal_text o x k r e d = rw (undrawn bs answer_text l q p k d) e
-
-    -- for the joiner too
-    pub refusal_walls : (o x : List ℕ) (k r : ℕ) → Fronts o (answer_text (refused k)) x r → q.answer ≡ Refused k → Fronts o (walls_listing bs) x r
-    unfolding walls_listing walls_text
-    refusal_walls o x k r e d = rw (undrawn bs walls_text l q p k d) e
-
-    -- and for the contractor
-    pub refusal_cuts : (o x : List ℕ) (k r : ℕ) → Fronts o (answer_text (refused k)) x r → q.answer ≡ Refused k → Fronts o (cuts_listing bs) x r
-    unfolding cuts_listing cuts_text
-    refusal_cuts o x k r e d = rw (undrawn bs cuts_text l q p k d) e
+      -- and for the contractor
+      pub refusal_cuts : Fronts o (cuts_listing bs) x r
+      unfolding cuts_listing cuts_text
+      refusal_cuts = rw (undrawn bs cuts_text l q p k n en d) e

@@ -1,5 +1,5 @@
 -- The doors of a plan as text, line by line, as the code comes by them. Assumes nothing.
-use Prim.Native.Nat.{ℕ, zero, suc, ◌+◌, ◌-◌, ◌*◌, ◌<◌, ◌≤◌, max, min}
+use Prim.Native.Nat.{ℕ, zero, suc, ◌+◌, ◌-◌, ◌*◌, ◌<◌, ◌≤◌}
 use mathlib.Core.Path.{◌≡◌, refl, sym, ap, ◌∙◌}
 use mathlib.Core.Bool.{true, false}
 use mathlib.Core.List.{List, [], ◌∷◌, ◌++◌, append_assoc, append-nil}
@@ -8,6 +8,9 @@ use borrow.Author.Tests.{le-leb, lt-leb}
 use lib.Dec.{leb}
 use lib.ListN.{length, get_or, drop, drop_of_length-le, length-append}
 use lib.Seq.{sets, drop-cons}
+use Rattle.std.specs.Prelude.{Result, Ok, Err}
+use Rattle.refusals.specs.declared.Refusal.{Refusal}
+use Rattle.refusals.specs.Numbers.{number_of}
 use Rattle.floor.specs.Plans.{Rect, nowhere, touch_of, refused, held}
 use Rattle.floor.proofs.Floor.Touches.{touch_fair}
 use Rattle.floor.specs.Calls.{load}
@@ -19,16 +22,14 @@ use Rattle.floor.specs.Doors.{Door, start_on, stop_on, door_at, doors_to, doors_
 use Rattle.drawing.specs.declared.Rect.{Rect as HeldRect}
 use Rattle.drawing.specs.declared.Touch.{Touch as Touching}
 use Rattle.drawing.specs.declared.Touch.TheVariants.{Clear, Wall}
-use Rattle.drawing.specs.declared.Answer.TheVariants.{Drawn, Refused}
-use Rattle.drawing.specs.declared.Plan.{Plan as HeldPlan}
-use Rattle.drawing.specs.Rects.{rect_in, touch_in, rects_in, plan_in}
-use Rattle.drawing.specs.Drawn.{said}
+use Rattle.drawing.specs.declared.Layout.{Layout}
+use Rattle.drawing.specs.Rects.{rect_in, touch_in, rects_in, rects_lent, plan_lent, plan_in}
 use Rattle.drawing.proofs.Corollaries.{many_rects}
-use Rattle.board.specs.declared.Planned.{Planned}
-use Rattle.board.specs.Boards.{held_job, Plans}
+use Rattle.board.specs.declared.Board.{Board as HeldBoard}
+use Rattle.board.specs.Boards.{held_job, said, Plans}
 use Rattle.letters.specs.Puts.{Puts}
 use Rattle.letters.proofs.Rows.{both_puts, none_put, front_put}
-use Rattle.texts.proofs.Rows.{one_short, six_short}
+use Rattle.texts.proofs.Rows.{one_short}
 use Rattle.texts.proofs.Plans.{vertex_at}
 
 -- ---- a text put part by part
@@ -62,50 +63,6 @@ partly_done o x whole at k left all p =
 
 -- ---- one door
 
--- where the shared stretch starts and stops, by the side
-module _ (r s : HeldRect) (k n : ℕ) where
-  -- above
-  pub start_0 : k ≡ 0 → n ≡ max r.x1 s.x1 → n ≡ start_on k (rect_in r) (rect_in s)
-  unfolding start_on rect_in
-  start_0 e f = rw e f
-
-  -- below
-  pub start_2 : k ≡ 2 → n ≡ max r.x1 s.x1 → n ≡ start_on k (rect_in r) (rect_in s)
-  unfolding start_on rect_in
-  start_2 e f = rw e f
-
-  -- to the left or to the right
-  pub start_other : (k ≡ 0 → ⊥) → (k ≡ 2 → ⊥) → n ≡ max r.y1 s.y1 → n ≡ start_on k (rect_in r) (rect_in s)
-  unfolding start_on rect_in
-  start_other a b f = go k a b
-    where
-      go : (k : ℕ) → (k ≡ 0 → ⊥) → (k ≡ 2 → ⊥) → n ≡ start_on k (rect_in r) (rect_in s)
-      go zero a b = absurd (a refl)
-      go (suc zero) a b = f
-      go (suc (suc zero)) a b = absurd (b refl)
-      go (suc (suc (suc i))) a b = f
-
-  -- above
-  pub stop_0 : k ≡ 0 → n ≡ min r.x2 s.x2 → n ≡ stop_on k (rect_in r) (rect_in s)
-  unfolding stop_on rect_in
-  stop_0 e f = rw e f
-
-  -- below
-  pub stop_2 : k ≡ 2 → n ≡ min r.x2 s.x2 → n ≡ stop_on k (rect_in r) (rect_in s)
-  unfolding stop_on rect_in
-  stop_2 e f = rw e f
-
-  -- to the left or to the right
-  pub stop_other : (k ≡ 0 → ⊥) → (k ≡ 2 → ⊥) → n ≡ min r.y2 s.y2 → n ≡ stop_on k (rect_in r) (rect_in s)
-  unfolding stop_on rect_in
-  stop_other a b f = go k a b
-    where
-      go : (k : ℕ) → (k ≡ 0 → ⊥) → (k ≡ 2 → ⊥) → n ≡ stop_on k (rect_in r) (rect_in s)
-      go zero a b = absurd (a refl)
-      go (suc zero) a b = f
-      go (suc (suc zero)) a b = absurd (b refl)
-      go (suc (suc (suc i))) a b = f
-
 module _ (r s : HeldRect) (x : Touching) (ex : touch_in x ≡ touch_of (rect_in r) (rect_in s)) where
   -- the text of the door between them
   abbrev text : List ℕ
@@ -122,25 +79,21 @@ module _ (r s : HeldRect) (x : Touching) (ex : touch_in x ≡ touch_of (rect_in 
   none_short e = rw (← ex, e) (omega arith)
 
   -- a wall: the numbers on a line are the line of the door
-  module _ (k n u v a b c d : ℕ) (e : x ≡ Wall k n) (ea : a ≡ start_on k (rect_in r) (rect_in s)) (eb : b ≡ stop_on k (rect_in r) (rect_in s))
-      (eu : u ≡ k) (ec : c ≡ a) (ed : d ≡ b) (ev : v ≡ n) where
+  module _ (k n a b : ℕ) (e : x ≡ Wall k n) (ea : a ≡ start_on k (rect_in r) (rect_in s)) (eb : b ≡ stop_on k (rect_in r) (rect_in s)) where
     -- the line
-    door_is : line (r.vertex ∷ s.vertex ∷ u ∷ c ∷ d ∷ v ∷ []) ≡ text
+    door_is : line (r.vertex ∷ s.vertex ∷ k ∷ a ∷ b ∷ n ∷ []) ≡ text
     unfolding touch_in door_at door_lines rect_in
-    door_is = rw (← ex, e, eu, ec, ed, ev, ea, eb) (sym (append-nil _))
+    door_is = rw (← ex, e, ea, eb) (sym (append-nil _))
 
-    -- where it is put, the text of the door is
-    pub door_put : (o y : List ℕ) (at m : ℕ) → Puts o at (line (r.vertex ∷ s.vertex ∷ u ∷ c ∷ d ∷ v ∷ [])) y m → Puts o at text y m
-    door_put o y at m p = rw door_is at p
-
-    -- it has at most 26 bytes
-    pub door_short : r.vertex < 100 → s.vertex < 100 → c < 65536 → d < 65536 → v < 65536 → length text ≤ 26
+    -- where it is put, the text of the door is, of at most 26 bytes
+    pub door_put : (r.vertex < 100) × (s.vertex < 100) → (o y : List ℕ) (at m : ℕ)
+        → Puts o at (line (r.vertex ∷ s.vertex ∷ k ∷ a ∷ b ∷ n ∷ [])) y m
+        × (r.vertex < 100 → s.vertex < 100 → k < 10 → length (line (r.vertex ∷ s.vertex ∷ k ∷ a ∷ b ∷ n ∷ [])) ≤ 26)
+        → Puts o at text y m × (length text ≤ 26)
     unfolding touch_in
-    door_short hr hs hc hd hv =
+    door_put (hr, hs) o y at m (p, q) =
         let f : (k < 4) × (1 ≤ n) = touch_fair (rect_in r) (rect_in s) k n (sym ex ∙ rw e refl) in
-        let l : length (line (r.vertex ∷ s.vertex ∷ u ∷ c ∷ d ∷ v ∷ [])) ≤ 26
-        = six_short r.vertex s.vertex u c d v hr hs (omega (arith, f.0)) (omega arith) (omega arith) (omega arith) in
-        rw door_is at l
+        (rw door_is at p, rw door_is at (q hr hs (omega (arith, f.0))))
 
 -- ---- the doors one by one
 
@@ -184,7 +137,7 @@ module _ (l : List ℕ) (rooms : ℕ) where
         omega (arith, vertex_at (rooms + 4) 0 v l)
 
     -- the same by a count of the rooms
-    pub vertex_next : (many : ℕ) → many ≡ rooms → v < many + 4 → r.vertex < 100
+    pub vertex_next : (many : ℕ) → many ≡ rooms + 4 → v < many → r.vertex < 100
     vertex_next many em h = vertex_small (omega arith)
 
   -- from v on: its rectangle, then those behind it
@@ -197,7 +150,7 @@ module _ (l : List ℕ) (rooms : ℕ) where
   from_end : (v : ℕ) → rooms + 4 ≤ v → drop v rects ≡ []
   from_end v h = let k : length rects ≤ v = omega (arith, many_rects (rooms + 4) l) in drop_of_length-le rects k
 
-  module _ (o : List ℕ) (at : ℕ) (whole : List ℕ) (all many : ℕ) (em : many ≡ rooms) where
+  module _ (o : List ℕ) (at : ℕ) (whole : List ℕ) (all many : ℕ) (em : many ≡ rooms + 4) where
     -- the doors from u, put up to that to v
     module _ (u v : ℕ) where
       -- what is left of them
@@ -205,7 +158,7 @@ module _ (l : List ℕ) (rooms : ℕ) where
       left_to w = door_lines (doors_to (rect_on u) (drop w rects))
 
       -- the next door's line put
-      pub to_more : (x y : List ℕ) (m k : ℕ) (r s : HeldRect) → Partly o at x m (left_to v) whole (26 * (rooms + 4 - v)) all → v < many + 4
+      pub to_more : (x y : List ℕ) (m k : ℕ) (r s : HeldRect) → Partly o at x m (left_to v) whole (26 * (rooms + 4 - v)) all → v < many
           → rect_in r ≡ rect_on u → rect_in s ≡ rect_on v
           → Puts x m (door_lines (door_at (rect_in r) (rect_in s) (touch_of (rect_in r) (rect_in s)))) y k
           × (length (door_lines (door_at (rect_in r) (rect_in s) (touch_of (rect_in r) (rect_in s)))) ≤ 26)
@@ -219,7 +172,7 @@ module _ (l : List ℕ) (rooms : ℕ) where
           partly_more o x y t (left_to (v + 1)) whole at m k 26 _ all (rw (e, c) at p) a b
 
       -- behind the last all are put
-      pub to_done : (x : List ℕ) (k : ℕ) → Partly o at x k (left_to v) whole (26 * (rooms + 4 - v)) all → many + 4 ≤ v → Puts o at whole x k × (length whole ≤ all)
+      pub to_done : (x : List ℕ) (k : ℕ) → Partly o at x k (left_to v) whole (26 * (rooms + 4 - v)) all → many ≤ v → Puts o at whole x k × (length whole ≤ all)
       unfolding doors_to door_lines
       to_done x k p h = partly_done o x whole at k _ all (rw (from_end v (omega arith)) at p)
 
@@ -230,7 +183,7 @@ module _ (l : List ℕ) (rooms : ℕ) where
       left_among w = door_lines (doors_among (drop w rects))
 
       -- those from u put
-      pub among_more : (x y : List ℕ) (m k : ℕ) → Partly o at x m (left_among u) whole (26 * pairs (rooms + 4 - u)) all → u < many + 4
+      pub among_more : (x y : List ℕ) (m k : ℕ) → Partly o at x m (left_among u) whole (26 * pairs (rooms + 4 - u)) all → u < many
           → Puts x m (door_lines (doors_to (rect_on u) (drop (u + 1) rects))) y k × (length (door_lines (doors_to (rect_on u) (drop (u + 1) rects))) ≤ 26 * (rooms + 4 - (u + 1)))
           → Partly o at y k (left_among (u + 1)) whole (26 * pairs (rooms + 4 - (u + 1))) all
       unfolding doors_among pairs
@@ -243,33 +196,28 @@ module _ (l : List ℕ) (rooms : ℕ) where
           partly_more o x y t (left_among (u + 1)) whole at m k (26 * (rooms + 4 - (u + 1))) _ all (rw (e, c) at p) q.0 q.1
 
       -- behind the last all are put
-      pub among_done : (x : List ℕ) (k : ℕ) → Partly o at x k (left_among u) whole (26 * pairs (rooms + 4 - u)) all → many + 4 ≤ u
+      pub among_done : (x : List ℕ) (k : ℕ) → Partly o at x k (left_among u) whole (26 * pairs (rooms + 4 - u)) all → many ≤ u
           → Puts o at whole x k × (length whole ≤ all)
       unfolding doors_among door_lines
       among_done x k p h = partly_done o x whole at k _ all (rw (from_end u (omega arith)) at p)
 
 -- ---- the whole answer
 
--- a job that is drawn
-module _ (bs : List ℕ) (q : Planned) (p : Plans q (load bs)) (d : q.answer ≡ Drawn) where
-  -- the held plan
-  abbrev plan : HeldPlan
-  plan = q.board.plan
-
+-- a job that is drawn, and the plan that is lent of its board
+module _ (bs : List ℕ) (q : Result HeldBoard Refusal) (p : Plans q (load bs)) (b : HeldBoard) (d : q ≡ Ok b) (a : Layout) (ea : plan_lent a ≡ plan_in b.plan) where
   -- it is what the load holds
-  loaded : load bs ≡ held (held_job q.board) (plan_in plan)
+  loaded : load bs ≡ held (held_job b) (plan_lent a)
   unfolding said
-  loaded = sym (rw d at p.says)
+  loaded = rw ea (sym (rw d at p.says))
 
   -- it has at most 60 rooms
-  pub few_rooms : plan.rooms ≤ 60
-  unfolding plan_in
+  pub few_rooms : a.rooms ≤ 60
   few_rooms =
       omega (
         arith,
-        plan_length_most _ (plan_in plan) (load_held bs _ (plan_in plan) loaded).1,
-        length_write_plan (plan_in plan),
-        many_rects (plan.rooms + 4) plan.rects,
+        plan_length_most _ (plan_lent a) (load_held bs _ (plan_lent a) loaded).1,
+        length_write_plan (plan_lent a),
+        many_rects (a.rooms + 4) a.rects.now,
       )
 
 -- what is printed for some input, on a page of 49,152 bytes
@@ -285,21 +233,21 @@ module _ (bs o x : List ℕ) (r : ℕ) (l : length o ≡ 49152) where
       let z : leb (length bs) 8192 ≡ false = lt-leb (length bs) 8192 h in
       rw z (front_put o too_long x r p l (omega arith))
 
-  module _ (h : length bs ≤ 8192) (q : Planned) (p : Plans q (load bs)) where
+  module _ (h : length bs ≤ 8192) (q : Result HeldBoard Refusal) (p : Plans q (load bs)) where
     -- any other: the text of what loading it answers
     short_doors : doors_listing bs ≡ doors_text (load bs)
     unfolding doors_listing
     short_doors = let z : leb (length bs) 8192 ≡ true = le-leb (length bs) 8192 h in rw z
 
     -- a job that is refused: its number
-    pub doors_refused : (k : ℕ) → k < 256 → q.answer ≡ Refused k → Puts o 0 (refused_word ++ line (k ∷ [])) x r → Stands
+    pub doors_refused : (k : Refusal) (n : ℕ) → n ≡ number_of k → n < 256 → q ≡ Err k → Puts o 0 (refused_word ++ line (n ∷ [])) x r → Stands
     unfolding said doors_text answer_text refused_word plain
-    doors_refused k i d t =
-        let e : load bs ≡ refused k = sym (rw d at p.says) in
-        rw (short_doors ∙ ap doors_text e) (front_put o (refused_word ++ line (k ∷ [])) x r t l (omega (arith, one_short k (omega arith))))
+    doors_refused k n en i d t =
+        let e : load bs ≡ refused n = rw en (sym (rw d at p.says)) in
+        rw (short_doors ∙ ap doors_text e) (front_put o (refused_word ++ line (n ∷ [])) x r t l (omega (arith, one_short n (omega arith))))
 
     -- a job that is drawn: its doors
-    pub doors_drawn : (d : q.answer ≡ Drawn) → Puts o 0 (door_lines (doors_among (drop 4 (rects_in (q.board.plan.rooms + 4) 0 q.board.plan.rects)))) x r
-        × (length (door_lines (doors_among (drop 4 (rects_in (q.board.plan.rooms + 4) 0 q.board.plan.rects)))) ≤ 46020) → Stands
-    unfolding doors_text doors plan_in
-    doors_drawn d t = rw (short_doors ∙ ap doors_text (loaded bs q p d)) (front_put o _ x r t.0 l (omega (arith, t.1)))
+    pub doors_drawn : (b : HeldBoard) → q ≡ Ok b → (a : Layout) → plan_lent a ≡ plan_in b.plan
+        → Puts o 0 (door_lines (doors_among (drop 4 (rects_lent a)))) x r × (length (door_lines (doors_among (drop 4 (rects_lent a)))) ≤ 46020) → Stands
+    unfolding doors_text doors
+    doors_drawn b d a ea t = rw (short_doors ∙ ap doors_text (loaded bs q p b d a ea)) (front_put o _ x r t.0 l (omega (arith, t.1)))

@@ -1,8 +1,10 @@
 -- A register as text, wall by wall, as the code comes by it. Assumes nothing.
 use Prim.Native.Nat.{ℕ, zero, suc, ◌+◌, ◌*◌, ◌<◌, ◌≤◌}
 use mathlib.Core.Path.{◌≡◌, sym, ◌∙◌, ap}
+use mathlib.Core.Bool.{Bool, true, false, cond}
 use mathlib.Core.List.{List, [], ◌∷◌, ◌++◌, append_assoc, append-nil}
 use native.Mathlib.Omega.{arith}
+use lib.Dec.{ltb}
 use lib.ListN.{length, length-append}
 use Rattle.floor.specs.Registers.{Partition, partition_bytes}
 use Rattle.floor.specs.Texts.{line, wall_lines}
@@ -10,7 +12,6 @@ use Rattle.registers.specs.declared.held.Wall.{Wall}
 use Rattle.registers.specs.Kept.{wall_in, wall_at, walls_in}
 use Rattle.letters.specs.Puts.{Puts}
 use Rattle.letters.proofs.Rows.{both_puts, none_put}
-use Rattle.texts.proofs.Rows.{five_short}
 
 -- so many walls and the next behind them
 walls_snoc : (u m i : ℕ) (l : List ℕ) → walls_in u (suc m) i l ≡ walls_in u m i l ++ (wall_at u l (i + m) ∷ [])
@@ -38,20 +39,27 @@ none_short l u = omega arith
 
 module _ (l : List ℕ) (u i : ℕ) where
   -- the line of one wall
-  module _ (w : Wall) (e : wall_in w ≡ wall_at u l i) (d a b c n : ℕ) (ed : d ≡ w.direction) (ea : a ≡ w.number) (eb : b ≡ w.begins) (ec : c ≡ w.ends)
-      (en : n ≡ w.sides) where
+  module _ (w : Wall) (e : wall_in w ≡ wall_at u l i) (d : ℕ) (ed : d ≡ w.direction) where
     -- the five numbers on a line are the line of wall i
-    wall_line : line (d ∷ a ∷ b ∷ c ∷ n ∷ []) ≡ line (partition_bytes (wall_at u l i))
+    wall_line : line (d ∷ w.number ∷ w.begins ∷ w.ends ∷ w.sides ∷ []) ≡ line (partition_bytes (wall_at u l i))
     unfolding partition_bytes wall_in
-    wall_line = rw (← e, ed, ea, eb, ec, en)
+    wall_line = rw (← e, ed)
 
-    -- where they are put on a line, the line of wall i is put
-    pub wall_put : (o x : List ℕ) (at k : ℕ) → Puts o at (line (d ∷ a ∷ b ∷ c ∷ n ∷ [])) x k → Puts o at (line (partition_bytes (wall_at u l i))) x k
-    wall_put o x at k q = rw wall_line at q
+    -- a direction is 0 or 1
+    direction_small : d ≤ 1
+    unfolding wall_in wall_at
+    direction_small = omega (arith, ed, ap (λ (p : Partition). p.direction) e, either (ltb i u))
+      where
+        either : (b : Bool) → cond b 0 1 ≤ 1
+        either true = omega arith
+        either false = omega arith
 
-    -- the line has at most 30 bytes
-    pub wall_short : d < 256 → a < 65536 → b < 65536 → c < 65536 → n < 65536 → length (line (partition_bytes (wall_at u l i))) ≤ 30
-    wall_short hd ha hb hc hn = rw wall_line at (five_short d a b c n (omega arith) (omega arith) (omega arith) (omega arith) (omega arith))
+    -- where they are put on a line, the line of wall i is put, of at most 30 bytes
+    pub wall_put : (o x : List ℕ) (at k : ℕ)
+        → Puts o at (line (d ∷ w.number ∷ w.begins ∷ w.ends ∷ w.sides ∷ [])) x k
+        × (d < 100000 → length (line (d ∷ w.number ∷ w.begins ∷ w.ends ∷ w.sides ∷ [])) ≤ 30)
+        → Puts o at (line (partition_bytes (wall_at u l i))) x k × (length (line (partition_bytes (wall_at u l i))) ≤ 30)
+    wall_put o x at k (p, q) = (rw wall_line at p, rw wall_line at (q (omega (arith, direction_small))))
 
   -- the lines of the first i walls, then that of wall i, are those of the first i + 1
   lines_next : wall_lines (walls_in u i 0 l) ++ line (partition_bytes (wall_at u l i)) ≡ wall_lines (walls_in u (i + 1) 0 l)

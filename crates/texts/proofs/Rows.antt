@@ -15,9 +15,9 @@ unfolding line
 line_more n m ns = append_assoc (decimal n) (32 ∷ []) (line (m ∷ ns))
 
 -- a number, a space and the line of the others, put one behind the other, are the line of all
-pub more_puts : (n m : ℕ) (ns o x y : List ℕ) (at k r : ℕ) → Puts o at (decimal n ++ (32 ∷ [])) x k → Puts x k (line (m ∷ ns)) y r
+pub more_puts : (n m i : ℕ) (ns o x y : List ℕ) (at k r : ℕ) → i ≡ n → Puts o at (decimal i ++ (32 ∷ [])) x k → Puts x k (line (m ∷ ns)) y r
     → Puts o at (line (n ∷ m ∷ ns)) y r
-more_puts n m ns o x y at k r p q = rw line_more at (both_puts o x y (decimal n ++ (32 ∷ [])) (line (m ∷ ns)) at k r p q)
+more_puts n m i ns o x y at k r e p q = rw line_more at (both_puts o x y (decimal n ++ (32 ∷ [])) (line (m ∷ ns)) at k r (rw e at p) q)
 
 -- how long a line of numbers below 100,000 is at most
 pub one_short : (n : ℕ) → n < 100000 → length (line (n ∷ [])) ≤ 6

@@ -6,32 +6,27 @@ ghost use Rattle.registers.specs.Kept.{wall_at, walls_in};
 ghost use Rattle.letters.specs.Puts.{Puts};
 
 use crate::line;
+use registers::Register;
 
 // The line of one wall.
-fn put_wall(rows: &[u16], uprights: u16, i: usize, out: &mut [u8], at: usize) -> usize
-    ensures { Puts out.old at (line (partition_bytes (wall_at uprights rows.now i))) out.new result
-        × (length (line (partition_bytes (wall_at uprights rows.now i))) ≤ 30) }
+fn put_wall(register: &Register, i: usize, out: &mut [u8], at: usize) -> usize
+    ensures { Puts out.old at (line (partition_bytes (wall_at register.now.uprights register.now.rows i))) out.new result
+        × (length (line (partition_bytes (wall_at register.now.uprights register.now.rows i))) ≤ 30) }
 {
-    let w = registers::held::wall_at(rows, uprights, i);
-    let direction = fields::wide(w.direction);
-    let number = fields::number(w.number);
-    let begins = fields::number(w.begins);
-    let ends = fields::number(w.ends);
-    let sides = fields::number(w.sides);
-    line::put_five(out, at, direction, number, begins, ends, sides)
+    let w = registers::held::wall_at(&register.rows, register.uprights, i);
+    let direction = usize::from(w.direction);
+    line::put_five(out, at, direction, w.number, w.begins, w.ends, w.sides)
 }
 
-// The lines of so many walls.
-pub fn put_walls(rows: &[u16], uprights: u16, many: u16, out: &mut [u8], at: usize) -> usize
-    ensures { Puts out.old at (wall_lines (walls_in uprights many 0 rows.now)) out.new result
-        × (length (wall_lines (walls_in uprights many 0 rows.now)) ≤ 30 * many) }
+// The lines of all its walls.
+pub fn put_walls(register: &Register, out: &mut [u8], at: usize) -> usize
+    ensures { Puts out.old at (wall_lines (walls_in register.now.uprights register.now.many 0 register.now.rows)) out.new result
+        × (length (wall_lines (walls_in register.now.uprights register.now.many 0 register.now.rows)) ≤ 30 * register.now.many) }
 {
-    let count = fields::number(many);
+    let many = usize::from(register.many);
     let mut next = at;
-    let mut i: usize = 0;
-    while i < count {
-        next = put_wall(rows, uprights, i, out, next);
-        i += 1;
+    for i in 0..many {
+        next = put_wall(register, i, out, next);
     }
     next
 }

@@ -2,214 +2,179 @@
 #![tactic(auto)]
 
 ghost use Rattle.std.specs.Prelude.{◌≡◌, []};
-ghost use Rattle.floor.specs.Calls.{empty, loads, step};
+ghost use Rattle.floor.specs.Calls.{turns, narrows};
 ghost use Rattle.floor.specs.Tracker.{plan_of_job, walls_of_job, cuts_of_job, turned_of_job, narrowed_of_job, touch_of_job, star_of_job, code};
 ghost use Rattle.floor.specs.Foreign.{judged};
 ghost use Rattle.floor.specs.Verdicts.{verdict_code};
 ghost use Rattle.floor.specs.Totals.{season, season_in};
-ghost use Rattle.board.specs.Boards.{board_of, outcome, Tells};
-ghost use Rattle.board.specs.Reach.{Reached};
-ghost use Rattle.tirunoiwa.specs.Left.{Left, changing};
+ghost use Rattle.board.specs.Boards.{outcome, Tells};
+ghost use Rattle.tirunoiwa.specs.Answers.{Gives};
 
-use board::{Board, Step};
-use elsewhere::Verdict;
+use board::{Board, Reply, Step};
+use refusals::Refusal;
 
 mod answer; // answer.rt: an answer as one number
 
 // An answer from here on is no refusal.
 const FIRST_VALUE: usize = 256;
 
-// The refusal where the output buffer is too short.
-const TOO_SHORT: usize = 14;
-
-// A job's bytes loaded: the answer as one number, and the board.
-#[derive(Clone, Copy)]
-struct Loaded {
-    answer: usize,
-    board: Board,
-}
-
-// A job's bytes loaded onto an empty board.
-fn load(job: &[u8]) -> Loaded
-    ensures { Left result.board result.answer (step empty (loads job.now)) }
+// A contact turned on a board that is lent, by itself: merged into its caller it would take its stack beside a load's (tests/stack).
+#[inline(never)]
+fn turn(board: &Board, u: usize, v: usize) -> Step
+    ensures { Tells result [] (outcome board.now (turns u v)) }
 {
-    let none = board::empty();
-    let loaded = none.load(job);
-    let held = loaded.board;
-    let reply = loaded.reply;
-    let answer = answer::code_of(reply);
-    Loaded {
-        answer: answer,
-        board: held,
-    }
+    board.turn(u, v)
 }
 
-// A call that changes the plan on a board: a contact turned, or the floor narrowed.
-#[derive(Clone, Copy)]
-enum Change {
-    Turn(usize, usize),
-    Narrow,
-}
-
-// Such a call made.
-fn made(board: Board, what: Change) -> Step
-    ensures { Tells result [] (outcome board (changing what)) }
+// A floor narrowed, in the same way.
+#[inline(never)]
+fn slim(board: &Board) -> Step
+    ensures { Tells result [] (outcome board.now narrows) }
 {
-    match what {
-        Change::Turn(u, v) => board.turn(u, v),
-        Change::Narrow => board.narrow(),
-    }
+    board.narrow()
 }
 
-// The same on a board that calls reach, and its answer as one number. One function for both changes, so that neither takes its stack beside a load's.
-fn changed(board: Board, what: Change) -> Loaded
-    requires { Reached board }
-    ensures { Left result.board result.answer (step (board_of board) (changing what)) }
+// The plan of a job, written to a lent buffer, or why it is refused.
+fn plan(job: &[u8], out: &mut [u8]) -> Result<Reply, Refusal>
+    ensures { Gives result out.new (plan_of_job job.now out.old) }
 {
-    let step = made(board, what);
-    let next = step.board;
-    let reply = step.reply;
-    let answer = answer::code_of(reply);
-    Loaded {
-        answer: answer,
-        board: next,
+    let board = board::plan_job(job)?;
+    board.write_plan(out).reply
+}
+
+// The walls of a job's plan, written to a lent buffer.
+fn walls(job: &[u8], out: &mut [u8]) -> Result<Reply, Refusal>
+    ensures { Gives result out.new (walls_of_job job.now out.old) }
+{
+    let planned = board::plan_job(job)?;
+    planned.write_walls(out).reply
+}
+
+// The tree of cuts of a job's plan, written to a lent buffer.
+fn cuts(job: &[u8], out: &mut [u8]) -> Result<Reply, Refusal>
+    ensures { Gives result out.new (cuts_of_job job.now out.old) }
+{
+    let board = board::plan_job(job)?;
+    board.write_cuts(out).reply
+}
+
+// The job with a contact turned, written to a lent buffer.
+fn turned(job: &[u8], u: usize, v: usize, out: &mut [u8]) -> Result<Reply, Refusal>
+    ensures { Gives result out.new (turned_of_job job.now u v out.old) }
+{
+    let held = board::plan_job(job)?;
+    let turned = turn(&held, u, v);
+    turned.reply?;
+    turned.board.write_job(out).reply
+}
+
+// The job with its floor narrowed, written to a lent buffer; how many turns were made is told.
+fn narrow(job: &[u8], out: &mut [u8]) -> Result<Reply, Refusal>
+    ensures { Gives result out.new (narrowed_of_job job.now out.old) }
+{
+    let held = board::plan_job(job)?;
+    let narrowed = slim(&held);
+    narrowed.board.write_job(out).reply?;
+    narrowed.reply
+}
+
+// The star of a room in a job's bytes, written to a lent buffer.
+fn star(job: &[u8], room: usize, out: &mut [u8]) -> Result<Reply, Refusal>
+    ensures { Gives result out.new (star_of_job job.now room out.old) }
+{
+    let star = jobs::raw_star(job, room);
+    if out.len() < star.len() {
+        return Err(Refusal::TooShort);
     }
+    Ok(Reply::Wrote(letters::word::put_word(out, 0, star)))
+}
+
+// How two vertices of a job touch: the side on which v stands, seen from u, and the length of wall they share.
+fn touch(job: &[u8], u: usize, v: usize) -> Result<Reply, Refusal>
+    ensures { Gives result [] (touch_of_job job.now u v) }
+{
+    let board = board::plan_job(job)?;
+    board.touches(u, v).reply
 }
 
 // The plan of a job, written to a lent buffer.
+#[tactic(auto, using(crate::proofs::Calling::given_fits, crate::proofs::Calling::given_told))]
 #[unsafe(no_mangle)]
 pub extern "C" fn tirunoiwa_plan(job: &[u8], out: &mut [u8]) -> usize
     ensures { (result ≡ code (plan_of_job job.now out.old).reply)
         × (out.new ≡ (plan_of_job job.now out.old).buffer) }
 {
-    let loaded = load(job);
-    if loaded.answer < FIRST_VALUE {
-        return loaded.answer;
-    }
-    let held = loaded.board;
-    let written = held.write_plan(out);
-    let reply = written.reply;
-    answer::code_of(reply)
+    answer::code_of(plan(job, out))
 }
 
 // The walls of a job's plan, written to a lent buffer.
+#[tactic(auto, using(crate::proofs::Calling::given_fits, crate::proofs::Calling::given_told))]
 #[unsafe(no_mangle)]
 pub extern "C" fn tirunoiwa_walls(job: &[u8], out: &mut [u8]) -> usize
     ensures { (result ≡ code (walls_of_job job.now out.old).reply)
         × (out.new ≡ (walls_of_job job.now out.old).buffer) }
 {
-    let planned = load(job);
-    if planned.answer < FIRST_VALUE {
-        return planned.answer;
-    }
-    let held = planned.board;
-    let written = held.write_walls(out);
-    let reply = written.reply;
-    answer::code_of(reply)
+    answer::code_of(walls(job, out))
 }
 
 // The tree of cuts of a job's plan, written to a lent buffer.
+#[tactic(auto, using(crate::proofs::Calling::given_fits, crate::proofs::Calling::given_told))]
 #[unsafe(no_mangle)]
 pub extern "C" fn tirunoiwa_cuts(job: &[u8], out: &mut [u8]) -> usize
     ensures { (result ≡ code (cuts_of_job job.now out.old).reply)
         × (out.new ≡ (cuts_of_job job.now out.old).buffer) }
 {
-    let loaded = load(job);
-    if loaded.answer < FIRST_VALUE {
-        return loaded.answer;
-    }
-    let held = loaded.board;
-    let written = held.write_cuts(out);
-    let reply = written.reply;
-    answer::code_of(reply)
+    answer::code_of(cuts(job, out))
 }
 
 // The job with a contact turned, written to a lent buffer.
+#[tactic(auto, using(crate::proofs::Calling::given_fits, crate::proofs::Calling::given_told))]
 #[unsafe(no_mangle)]
 pub extern "C" fn tirunoiwa_turned(job: &[u8], u: usize, v: usize, out: &mut [u8]) -> usize
     ensures { (result ≡ code (turned_of_job job.now u v out.old).reply)
         × (out.new ≡ (turned_of_job job.now u v out.old).buffer) }
 {
-    let loaded = load(job);
-    if loaded.answer < FIRST_VALUE {
-        return loaded.answer;
-    }
-    let held = loaded.board;
-    let turned = changed(held, Change::Turn(u, v));
-    if turned.answer < FIRST_VALUE {
-        return turned.answer;
-    }
-    let next = turned.board;
-    let written = next.write_job(out);
-    let last = written.reply;
-    answer::code_of(last)
+    answer::code_of(turned(job, u, v, out))
 }
 
 // The job with its floor narrowed, written to a lent buffer; how many turns were made is told.
+#[tactic(auto, using(crate::proofs::Calling::given_fits, crate::proofs::Calling::given_told))]
 #[unsafe(no_mangle)]
 pub extern "C" fn tirunoiwa_narrow(job: &[u8], out: &mut [u8]) -> usize
     ensures { (result ≡ code (narrowed_of_job job.now out.old).reply)
         × (out.new ≡ (narrowed_of_job job.now out.old).buffer) }
 {
-    let loaded = load(job);
-    if loaded.answer < FIRST_VALUE {
-        return loaded.answer;
-    }
-    let held = loaded.board;
-    let narrowed = changed(held, Change::Narrow);
-    let slim = narrowed.board;
-    let written = slim.write_job(out);
-    let last = written.reply;
-    let told = answer::code_of(last);
-    if told < FIRST_VALUE {
-        return told;
-    }
-    narrowed.answer
+    answer::code_of(narrow(job, out))
 }
 
 // The star of a room in a job's bytes, written to a lent buffer.
+#[tactic(auto, using(crate::proofs::Calling::given_fits, crate::proofs::Calling::given_told))]
 #[unsafe(no_mangle)]
 pub extern "C" fn tirunoiwa_star(job: &[u8], room: usize, out: &mut [u8]) -> usize
     ensures { (result ≡ code (star_of_job job.now room out.old).reply)
         × (out.new ≡ (star_of_job job.now room out.old).buffer) }
 {
-    let star = jobs::raw_star(job, room);
-    if out.len() < star.len() {
-        return TOO_SHORT;
-    }
-    let length = letters::word::put_word(out, 0, star);
-    FIRST_VALUE + length
+    answer::code_of(star(job, room, out))
 }
 
 // How two vertices of a job touch, as one number: the side on which v stands, seen from u, and the length of wall they share.
+#[tactic(auto, using(crate::proofs::Calling::given_fits, crate::proofs::Calling::given_told))]
 #[unsafe(no_mangle)]
 pub extern "C" fn tirunoiwa_touch(job: &[u8], u: usize, v: usize) -> usize
     ensures { result ≡ code (touch_of_job job.now u v).reply }
 {
-    let loaded = load(job);
-    if loaded.answer < FIRST_VALUE {
-        return loaded.answer;
-    }
-    let held = loaded.board;
-    let told = held.touches(u, v);
-    let reply = told.reply;
-    answer::code_of(reply)
+    answer::code_of(touch(job, u, v))
 }
 
 // Whether a plan drawn elsewhere is good for a job, as one number: 1 more than the first value for yes, the first value for no.
+#[tactic(auto, unfolding(floor::specs::Verdicts::verdict_code, elsewhere::specs::Answers::verdict))]
 #[unsafe(no_mangle)]
 pub extern "C" fn tirunoiwa_check<'a>(job: &'a [u8], plan: &'a [u8]) -> usize
     ensures { result ≡ verdict_code (judged job.now plan.now) }
 {
-    let answer = elsewhere::judge(job, plan);
-    match answer {
-        Verdict::Refused(k) => fields::wide(k),
-        Verdict::Says(good) => {
-            if good {
-                return FIRST_VALUE + 1;
-            }
-            FIRST_VALUE
-        }
+    match elsewhere::judge(job, plan) {
+        Ok(good) => FIRST_VALUE + usize::from(good),
+        Err(k) => usize::from(k.number()),
     }
 }
 

@@ -6,23 +6,24 @@ use std::io;
 
 // What is written for two rooms and a job.
 fn answer(rt: &impl Print, input: &[u8]) -> io::Result<()> {
-    if input.len() < 4 {
+    let Some((&[u_high, u_low, v_high, v_low], job)) = input.split_first_chunk::<4>() else {
         return replies::refuse(rt, 1);
-    }
-    if 8196 < input.len() {
+    };
+    if 8192 < job.len() {
         return replies::too_long(rt);
     }
-    let u = 256 * fields::wide(input[0]) + fields::wide(input[1]);
-    let v = 256 * fields::wide(input[2]) + fields::wide(input[3]);
+    let u = u16::from_be_bytes([u_high, u_low]);
+    let v = u16::from_be_bytes([v_high, v_low]);
     let mut out = letters::page();
-    let answer = tirunoiwa::tirunoiwa_turned(&input[4..], u, v, &mut out);
+    let answer = tirunoiwa::tirunoiwa_turned(job, usize::from(u), usize::from(v), &mut out);
     replies::show(rt, answer, &out)
 }
 
 fn main(rt: HostRuntime) {
-    let mut input = [0u8; 8197];
-    match streams::read_full(&mut rt.stdin(), &mut input) {
-        Ok(n) => streams::unwritten(&rt, answer(&rt, &input[..n])),
-        Err(why) => streams::unread(&rt, why),
-    }
+    streams::reply(
+        &rt,
+        &mut rt.stdin(),
+        &mut [0; 8197],
+        |input| answer(&rt, input),
+    );
 }

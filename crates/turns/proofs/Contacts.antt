@@ -6,6 +6,7 @@ use mathlib.Core.List.{List, [], ◌∷◌, map}
 use native.Mathlib.Omega.{arith}
 use native.Mathlib.Decide.{dec_lt}
 use borrow.Author.Tests.{le-leb, lt-leb, leb-true, leb-false, lt-ltb, le-ltb, eq-eqb, ne_eqb, not-true, not-false}
+use mir.Val.{bool_byte}
 use lib.Dec.{leb, ltb, eqb}
 use lib.ListN.{length, get_or}
 use Rattle.floor.specs.Lists.{keep, any}
@@ -155,16 +156,6 @@ module _ (k n : ℕ) (last : Bool) (e : n ≡ k) where
   unfolding turned_kind
   kind_before t = rw (t, e)
 
--- one entry of a kind, or none
-module _ (kind : List ℕ) (k x want : ℕ) (e : x ≡ get_or kind k 0) where
-  -- an entry of the kind counts one
-  pub one_yes : x ≡ want → (1 ≡ bit (eqb (get_or kind k 0) want)) × (1 ≤ 1)
-  one_yes q = (rw (← e, eq-eqb x want q), omega arith)
-
-  -- an entry of another kind counts nothing
-  pub one_no : (x ≡ want → ⊥) → (0 ≡ bit (eqb (get_or kind k 0) want)) × (0 ≤ 1)
-  one_no q = (rw (← e, ne_eqb x want q), omega arith)
-
 -- the entry at a place, and the one behind it
 module _ (nbr kind : List ℕ) (first end k v x : ℕ) (ex : x ≡ to_at nbr k) where
   -- an entry that names another vertex is no end of v's list
@@ -209,15 +200,20 @@ many_cons e s k = go (eqb e.kind k)
     go true = omega arith
     go false = omega arith
 
+-- a test as a number is one or nothing
+same_bit : (t : Bool) → bool_byte t ≡ bit t
+same_bit true = refl
+same_bit false = refl
+
 module _ (nbr kind : List ℕ) (want y k : ℕ) where
   -- the next entry counted, those behind it are left
-  pub many_more : (n w b : ℕ) → b ≡ bit (eqb (get_or kind k 0) want) → k < y → n + length (list_of (cells (y - k) k nbr kind) want) ≡ w
+  pub many_more : (n w a b : ℕ) → a ≡ get_or kind k 0 → b ≡ bool_byte (eqb a want) → k < y → n + length (list_of (cells (y - k) k nbr kind) want) ≡ w
       → n + b + length (list_of (cells (y - (k + 1)) (k + 1) nbr kind) want) ≡ w
   unfolding entry_at
-  many_more n w b e h inv =
+  many_more n w a b ea e h inv =
       let r : Star = cells (y - (k + 1)) (k + 1) nbr kind in
       let c : length (list_of (cells (y - k) k nbr kind) want) ≡ b + length (list_of r want) =
-      rw (cells_more nbr kind y k h, e) (many_cons (entry_at nbr kind k) r want) in
+      rw (cells_more nbr kind y k h, e, same_bit (eqb a want), ea) (many_cons (entry_at nbr kind k) r want) in
       omega arith
 
   -- behind the last entry nothing is left to count

@@ -8,25 +8,17 @@ use native.Mathlib.Omega.{arith}
 use borrow.Author.Tests.{le-leb, lt-leb, not-true, not-false}
 use lib.Dec.{leb, eqb}
 use lib.ListN.{length, set}
-use lib.Seq.{set_out}
 use Rattle.floor.specs.Jobs.{Job, opposite, star_of, kind_of, list_of, reads, passing}
 use Rattle.floor.specs.Turns.{is_last, turned_kind, turned, turning_at, turning_from, turning, in_contact}
 use Rattle.stars.specs.Held.{held_star, job_in}
 use Rattle.stars.proofs.Holding.{length_stars}
 use Rattle.turns.specs.declared.Swing.{Swing as Said}
-use Rattle.turns.specs.declared.Swing.TheVariants.{Stops, Swings}
+use Rattle.std.specs.Prelude.{Result, Ok, Err}
+use Rattle.refusals.specs.declared.Refusal.{Refusal}
+use Rattle.refusals.specs.declared.Refusal.TheVariants.{NoContact, CannotTurn}
+use Rattle.refusals.specs.Numbers.{number_of}
 use Rattle.turns.specs.InPlace.{stops, swings, allowed, swing_at, swing_from, swing_of, two_turned, turned_job, place_of, two_set, swung_in, turned_in, swing_said}
 use Rattle.turns.proofs.Contacts.{room_held, contact_rooms, met_rooms, Rooms}
-
--- a kind set: where the place is past the end nothing changes
-module _ (ends nbr kind : List ℕ) (i v new p : ℕ) (ep : p ≡ place_of ends nbr i v) where
-  -- past the end no kind is set
-  pub set_none : length kind ≤ p → kind ≡ set kind (place_of ends nbr i v) new
-  set_none h = rw (← ep, set_out kind p new h)
-
-  -- else the one at the place is
-  pub set_here : set kind p new ≡ set kind (place_of ends nbr i v) new
-  set_here = rw ep
 
 -- so many stars that lie one behind the other
 module _ (c : ℕ) (ends nbr kind : List ℕ) where
@@ -41,8 +33,8 @@ module _ (c : ℕ) (ends nbr kind : List ℕ) where
     first_list = rw (room_held c ends nbr kind u lu ku) (sym em)
 
     -- 12 where u has fewer than two of them
-    pub swing_first : m < 2 → swing_said (Stops 12) ≡ swing_at job u v k
-    unfolding swing_said swing_at allowed
+    pub swing_first : m < 2 → swing_said (Err CannotTurn) ≡ swing_at job u v k
+    unfolding swing_said number_of swing_at allowed
     swing_first l = rw (first_list, lt-leb 2 m l)
 
     module _ (n s : ℕ) (lm : 2 ≤ m) (es : s ≡ opposite k) (en : n ≡ length (list_of (held_star ends nbr kind (v - 4)) s)) where
@@ -51,24 +43,24 @@ module _ (c : ℕ) (ends nbr kind : List ℕ) where
       second_list = rw (← es, room_held c ends nbr kind v lv kv) (sym en)
 
       -- 12 where v has fewer than two of them
-      pub swing_second : n < 2 → swing_said (Stops 12) ≡ swing_at job u v k
-      unfolding swing_said swing_at allowed
+      pub swing_second : n < 2 → swing_said (Err CannotTurn) ≡ swing_at job u v k
+      unfolding swing_said number_of swing_at allowed
       swing_second l = rw (first_list, le-leb 2 m lm, second_list, lt-leb 2 n l)
 
       -- else the contact turns, to the kind that it takes by whether v is last of its list in u's star
       pub swing_turns : (last : Bool) (t : ℕ) → 2 ≤ n → last ≡ is_last (held_star ends nbr kind (u - 4)) v → t ≡ turned_kind k last
-          → swing_said (Swings u v t) ≡ swing_at job u v k
-      unfolding swing_said swing_at allowed
+          → swing_said (Ok (record { first = u; second = v; kind = t })) ≡ swing_at job u v k
+      unfolding swing_said number_of swing_at allowed
       swing_turns last t ln el et = rw (first_list, le-leb 2 m lm, second_list, le-leb 2 n ln, et, el, room_held c ends nbr kind u lu ku)
 
   -- 11, or the contact seen from the one room or the other
   module _ (u v : ℕ) (b : Bool) (eb : b ≡ in_contact job u v) where
     -- 11 where the two are not rooms in contact
-    pub swing_none : not b ≡ true → swing_said (Stops 11) ≡ swing_of job u v
-    unfolding swing_said swing_of allowed
+    pub swing_none : not b ≡ true → swing_said (Err NoContact) ≡ swing_of job u v
+    unfolding swing_said number_of swing_of allowed
     swing_none t = rw (← eb, not-true b t)
 
-    module _ (f : not b ≡ false) (k : ℕ) (ek : k ≡ kind_of (held_star ends nbr kind (u - 4)) v) (a : Bool) (ea : a ≡ (eqb k 0 || eqb k 3)) (r : Said) where
+    module _ (f : not b ≡ false) (k : ℕ) (ek : k ≡ kind_of (held_star ends nbr kind (u - 4)) v) (a : Bool) (ea : a ≡ (eqb k 0 || eqb k 3)) (r : Result Said Refusal) where
       -- of two rooms in contact, it goes by the kind with which the first names the second
       seen : swing_of job u v ≡ swing_from a job u v k
       unfolding swing_of allowed
@@ -125,35 +117,35 @@ of_rooms j u v a b t e = let (f, w) = swung j u v a b t e in which w (contact_ro
     which (inr (p, q)) r = rw (p, q) (r.2, r.3, r.0, r.1)
 
 -- WHAT `turn_held` PROMISES of its answer and of what stands in the kinds lent to it
-abbrev pub Promised : ℕ → List ℕ → List ℕ → List ℕ → ℕ → ℕ → Said → List ℕ → Type 0
+abbrev pub Promised : ℕ → List ℕ → List ℕ → List ℕ → ℕ → ℕ → Result Said Refusal → List ℕ → Type 0
 Promised c ends nbr kind u v r x = (swing_said r ≡ swing_of (job_in c ends nbr kind) u v) × (x ≡ turned_in c ends nbr kind u v)
 
 -- nothing turns, or both kinds are set
-module _ (c : ℕ) (ends nbr kind : List ℕ) (u v : ℕ) (r : Said) (er : swing_said r ≡ swing_of (job_in c ends nbr kind) u v) where
+module _ (c : ℕ) (ends nbr kind : List ℕ) (u v : ℕ) (r : Result Said Refusal) (er : swing_said r ≡ swing_of (job_in c ends nbr kind) u v) where
   -- a refusal leaves the kinds as they were
-  pub turns_not : (k : ℕ) → r ≡ Stops k → Promised c ends nbr kind u v (Stops k) kind
+  pub turns_not : (k : Refusal) → r ≡ Err k → Promised c ends nbr kind u v (Err k) kind
   unfolding turned_in swung_in swing_said
   turns_not k e = (sym (ap swing_said e) ∙ er, rw (← er, e))
 
-  module _ (a b t : ℕ) (e : r ≡ Swings a b t) where
+  module _ (w : Said) (e : r ≡ Ok w) where
     -- the two that turn are rooms
-    rooms : Rooms c a b
+    rooms : Rooms c w.first w.second
     unfolding swing_said
-    rooms = rw (length_stars c 0 ends nbr kind) at (of_rooms (job_in c ends nbr kind) u v a b t (sym er ∙ ap swing_said e))
+    rooms = rw (length_stars c 0 ends nbr kind) at (of_rooms (job_in c ends nbr kind) u v w.first w.second w.kind (sym er ∙ ap swing_said e))
 
     -- the first is no side of the frame
-    pub first_low : 4 ≤ a
+    pub first_low : 4 ≤ w.first
     first_low = rooms.0
 
     -- the second is no side of the frame
-    pub second_low : 4 ≤ b
+    pub second_low : 4 ≤ w.second
     second_low = rooms.2
 
     -- the one kind set, then the other, are what is promised
-    pub turns_so : (s : ℕ) (x y : List ℕ) → x ≡ set kind (place_of ends nbr (a - 4) b) t → s ≡ opposite t → y ≡ set x (place_of ends nbr (b - 4) a) s
-        → Promised c ends nbr kind u v (Swings a b t) y
+    pub turns_so : (p q s : ℕ) (x y : List ℕ) → p ≡ place_of ends nbr (w.first - 4) w.second → q ≡ place_of ends nbr (w.second - 4) w.first
+        → x ≡ set kind p w.kind → s ≡ opposite w.kind → y ≡ set x q s → Promised c ends nbr kind u v (Ok w) y
     unfolding turned_in swung_in swing_said two_set
-    turns_so s x y ex es ey = (sym (ap swing_said e) ∙ er, rw (← er, e, ← es, ← ex) ey)
+    turns_so p q s x y ep eq ex es ey = (sym (ap swing_said e) ∙ er, rw (← er, e, ← ep, ← eq, ← es, ← ex) ey)
 
 -- THE JOB OF IT is the one that turning gives
 pub turning_swings : (j : Job) (u v : ℕ) → turning j u v ≡ turned_job j (swing_of j u v)

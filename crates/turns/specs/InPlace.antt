@@ -1,11 +1,12 @@
 -- Held stars with a contact turned where they stand: two kinds set, and nothing moves. Assumes nothing.
-use Rattle.std.specs.Prelude.{ℕ, ◌-◌, Bool, true, false, ◌&&◌, ◌||◌, List, length, set, leb, eqb}
+use Rattle.std.specs.Prelude.{ℕ, ◌-◌, Bool, true, false, ◌&&◌, ◌||◌, List, length, set, leb, eqb, Result, Ok, Err}
 use Rattle.floor.specs.Jobs.{Job, opposite, star_of, kind_of, list_of, Reading, fails, reads}
 use Rattle.floor.specs.Turns.{is_last, turned_kind, with_kind, in_contact}
+use Rattle.refusals.specs.declared.Refusal.{Refusal}
+use Rattle.refusals.specs.Numbers.{number_of}
 use Rattle.stars.specs.declared.Stars.{Stars}
 use Rattle.stars.specs.Held.{start_of, end_of, job_in, place_in}
 use Rattle.turns.specs.declared.Swing.{Swing as Said}
-use Rattle.turns.specs.declared.Swing.TheVariants.{Stops, Swings}
 
 -- which contact turns: a refusal, or two rooms, and the kind with which the first then names the second
 pub data Swing : Type 0 where
@@ -67,6 +68,6 @@ unfoldable pub two_put : Stars → ℕ → ℕ → ℕ → Stars
 two_put h a b t = record { count = h.count; ends = h.ends; nbr = h.nbr; kind = two_set h.ends h.nbr h.kind a b t }
 
 -- what an answer says
-unfoldable pub swing_said : Said → Swing
-swing_said (Stops k) = stops k
-swing_said (Swings a b t) = swings a b t
+unfoldable pub swing_said : Result Said Refusal → Swing
+swing_said (Err k) = stops (number_of k)
+swing_said (Ok s) = swings s.first s.second s.kind

@@ -1,58 +1,47 @@
 // Contacts: two rooms of which one names the other, and the list of one kind in which a neighbour stands.
-ghost use Rattle.std.specs.Prelude.{◌≡◌, ◌&&◌, ◌||◌, ◌+◌, ◌≤◌, leb, eqb, length, get_or};
-ghost use Rattle.floor.specs.Lists.Laws.{bit};
+ghost use Rattle.std.specs.Prelude.{◌≡◌, ◌&&◌, ◌||◌, ◌+◌, leb, eqb, length};
 ghost use Rattle.floor.specs.Jobs.{kind_of, list_of};
 ghost use Rattle.floor.specs.Turns.{ends_at, is_last, turned_kind, in_contact};
-ghost use Rattle.stars.specs.Held.{link_at, held_star, job_in};
+ghost use Rattle.stars.specs.Held.{link_at, held_star, job_held};
 ghost use Rattle.turns.specs.InPlace.{place_of};
+
+use stars::held::Held;
 
 // Whether a number is a room's, of so many rooms.
 fn is_room(count: usize, v: usize) -> bool
     ensures { result ≡ (leb 4 v && leb v (count + 3)) }
 {
-    if v < 4 {
-        return false;
-    }
-    v - 4 < count
+    4 <= v && v - 4 < count
 }
 
 // Whether two numbers are rooms in contact.
-pub fn in_contact<'a>(
-    ends: &'a [u16],
-    nbr: &'a [u16],
-    kind: &'a [u8],
-    count: usize,
-    u: usize,
-    v: usize,
-) -> bool
-    ensures { result ≡ in_contact (job_in count ends.now nbr.now kind.now) u v }
+pub fn in_contact(stars: &Held, u: usize, v: usize) -> bool
+    ensures { result ≡ in_contact (job_held stars.now) u v }
 {
-    if !is_room(count, u) {
+    if !is_room(stars.count, u) {
         return false;
     }
-    if !is_room(count, v) {
+    if !is_room(stars.count, v) {
         return false;
     }
-    stars::held::star_names(ends, nbr, kind, count, u, v)
+    stars.names(u, v)
 }
 
 // The place at which a star names a vertex; the place behind the star where it does not.
-pub fn place_of<'a>(ends: &'a [u16], nbr: &'a [u16], i: usize, v: usize) -> usize
-    ensures { result ≡ place_of ends.now nbr.now i v }
+#[tactic(auto, using(crate::proofs::Contacts::place_of_lem))]
+pub fn place_of(stars: &Held, i: usize, v: usize) -> usize
+    ensures { result ≡ place_of stars.now.ends.now stars.now.nbr.now i v }
 {
-    let from = stars::held::start_of(ends, nbr.len(), i);
-    let end = stars::held::end_of(ends, nbr.len(), i);
-    stars::held::place_in(nbr, from, end, v)
+    stars.place_in(stars.start_of(i), stars.end_of(i), v)
 }
 
 // The kind with which a star names a vertex; 4 where it does not.
-pub fn kind_of<'a>(ends: &'a [u16], nbr: &'a [u16], kind: &'a [u8], i: usize, v: usize) -> u8
-    ensures { result ≡ kind_of (held_star ends.now nbr.now kind.now i) v }
+pub fn kind_of(stars: &Held, i: usize, v: usize) -> u8
+    ensures { result ≡ kind_of (held_star stars.now.ends.now stars.now.nbr.now stars.now.kind.now i) v }
 {
-    let end = stars::held::end_of(ends, nbr.len(), i);
-    let place = place_of(ends, nbr, i, v);
-    if place < end {
-        return stars::held::kind_at(kind, place);
+    let place = place_of(stars, i, v);
+    if place < stars.end_of(i) {
+        return stars.kind_at(place);
     }
     4
 }
@@ -61,70 +50,52 @@ pub fn kind_of<'a>(ends: &'a [u16], nbr: &'a [u16], kind: &'a [u8], i: usize, v:
 pub fn leads(kind: u8) -> bool
     ensures { result ≡ (eqb kind 0 || eqb kind 3) }
 {
-    if kind == 0 {
-        return true;
-    }
-    kind == 3
+    kind == 0 || kind == 3
 }
 
 // The kind that a contact takes: the next side counterclockwise where the neighbour is last of its list, else the side before.
 pub fn turned_kind(kind: u8, last: bool) -> u8
     ensures { result ≡ turned_kind kind last }
 {
-    let k = fields::wide(kind);
+    let k = usize::from(kind);
     if last {
         return ((k + 1) % 4) as u8;
     }
     ((k + 3) % 4) as u8
 }
 
-// One for an entry of the kind, nothing for any other.
-fn one_of(kind: &[u8], k: usize, want: u8) -> usize
-    ensures { (result ≡ bit (eqb (get_or kind.now k 0) want)) × (result ≤ 1) }
-{
-    if stars::held::kind_at(kind, k) == want {
-        return 1;
-    }
-    0
-}
-
 // How many entries of one kind a star has.
-pub fn many_of<'a>(ends: &'a [u16], nbr: &'a [u16], kind: &'a [u8], i: usize, want: u8) -> usize
-    ensures { result ≡ length (list_of (held_star ends.now nbr.now kind.now i) want) }
+pub fn many_of(stars: &Held, i: usize, want: u8) -> usize
+    ensures { result ≡ length (list_of (held_star stars.now.ends.now stars.now.nbr.now stars.now.kind.now i) want) }
 {
-    let end = stars::held::end_of(ends, nbr.len(), i);
-    let mut k = stars::held::start_of(ends, nbr.len(), i);
     let mut many: usize = 0;
-    while k < end {
-        many += one_of(kind, k, want);
-        k += 1;
+    for k in stars.start_of(i)..stars.end_of(i) {
+        many += usize::from(stars.kind_at(k) == want);
     }
     many
 }
 
 // Whether the entry at a place of a star names the vertex, and behind it the kind changes.
-fn ends_at<'a>(nbr: &'a [u16], kind: &'a [u8], from: usize, end: usize, k: usize, v: usize) -> bool
-    ensures { result ≡ ends_at v (link_at from end nbr.now kind.now k) }
+fn ends_at(stars: &Held, from: usize, end: usize, k: usize, v: usize) -> bool
+    ensures { result ≡ ends_at v (link_at from end stars.now.nbr.now stars.now.kind.now k) }
 {
-    if stars::held::to_at(nbr, k) != v {
+    if stars.to_at(k) != v {
         return false;
     }
     let next = stars::held::place_after(from, end, k);
-    stars::held::kind_at(kind, k) != stars::held::kind_at(kind, next)
+    stars.kind_at(k) != stars.kind_at(next)
 }
 
 // Whether a vertex is last of its list, once round a star.
-pub fn last_of<'a>(ends: &'a [u16], nbr: &'a [u16], kind: &'a [u8], i: usize, v: usize) -> bool
-    ensures { result ≡ is_last (held_star ends.now nbr.now kind.now i) v }
+pub fn last_of(stars: &Held, i: usize, v: usize) -> bool
+    ensures { result ≡ is_last (held_star stars.now.ends.now stars.now.nbr.now stars.now.kind.now i) v }
 {
-    let from = stars::held::start_of(ends, nbr.len(), i);
-    let end = stars::held::end_of(ends, nbr.len(), i);
-    let mut k = from;
-    while k < end {
-        if ends_at(nbr, kind, from, end, k, v) {
+    let from = stars.start_of(i);
+    let end = stars.end_of(i);
+    for k in from..end {
+        if ends_at(stars, from, end, k, v) {
             return true;
         }
-        k += 1;
     }
     false
 }

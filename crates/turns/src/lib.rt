@@ -5,17 +5,22 @@ ghost use Rattle.std.specs.Prelude.{◌≡◌};
 ghost use Rattle.stars.specs.Held.{job_in};
 ghost use Rattle.turns.specs.InPlace.{swing_said, swing_of, turned_in};
 
+use refusals::Refusal;
+use stars::held::Held;
+
 mod contact; // contact.rt: whether two rooms are in contact, and the lists that the contact stands in
 mod place; // place.rt: which contact turns, and one kind of it set
 
-// Which contact turns: a refusal, or two rooms and the kind with which the first then names the second.
-#[derive(Clone, Copy)]
-pub enum Swing {
-    Stops(u8),
-    Swings(usize, usize, u8),
+// The contact that turns: two rooms, and the kind with which the first then names the second.
+#[derive(Clone, Copy, PartialEq, Eq)]
+pub struct Swing {
+    pub first: usize,
+    pub second: usize,
+    pub kind: u8,
 }
 
 // A contact of held stars turned: which one, and its two kinds set among the lent ones, which stay as they are where it is refused.
+// The kinds are lent to be changed, so no Held stands beside them as a parameter.
 pub fn turn_held<'a>(
     kind: &mut [u8],
     ends: &'a [u16],
@@ -23,18 +28,20 @@ pub fn turn_held<'a>(
     count: usize,
     u: usize,
     v: usize,
-) -> Swing
+) -> Result<Swing, Refusal>
     ensures { (swing_said result ≡ swing_of (job_in count ends.now nbr.now kind.old) u v)
         × (kind.new ≡ turned_in count ends.now nbr.now kind.old u v) }
 {
-    let swing = place::swing_of(ends, nbr, kind, count, u, v);
-    match swing {
-        Swing::Stops(k) => Swing::Stops(k),
-        Swing::Swings(a, b, new) => {
-            place::set_kind(kind, ends, nbr, a - 4, b, new);
-            let other = stars::kinds::opposite_of(new);
-            place::set_kind(kind, ends, nbr, b - 4, a, other);
-            Swing::Swings(a, b, new)
-        }
-    }
+    let stars = Held {
+        count,
+        ends,
+        nbr,
+        kind: &*kind,
+    };
+    let swing = place::swing_of(&stars, u, v)?;
+    let there = contact::place_of(&stars, swing.first - 4, swing.second);
+    let back = contact::place_of(&stars, swing.second - 4, swing.first);
+    place::set_kind(kind, there, swing.kind);
+    place::set_kind(kind, back, stars::kinds::opposite_of(swing.kind));
+    Ok(swing)
 }

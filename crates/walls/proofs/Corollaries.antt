@@ -4,6 +4,7 @@ use mathlib.Core.Logic.{◌⊎◌, inl, inr, ◌↔◌}
 use mathlib.Core.Bool.{Bool, true, false, cond, ◌&&◌}
 use mathlib.Core.Option.{Option, none, some}
 use mathlib.Core.List.{List, []}
+use Rattle.std.specs.Prelude.{Option as Held, None, Some}
 use Prim.Native.Nat.{ℕ, ◌+◌, ◌*◌, ◌≤◌, ◌<◌}
 use native.Mathlib.Omega.{arith}
 use borrow.Author.Tests.{le-leb, leb-true}
@@ -19,8 +20,6 @@ use Rattle.floor.proofs.Walls.Relax.{Right}
 use Rattle.floor.proofs.Walls.Rules.{Named, to_vertex, job_numbers_right, job_bound, numbers_are, numbers_least}
 use Rattle.floor.specs.Plans.{drawn, refused}
 use Rattle.floor.proofs.Plans.Held.{seven}
-use Rattle.walls.specs.declared.Answer.{Answer}
-use Rattle.walls.specs.declared.Answer.TheVariants.{Numbered, Circle as Round}
 use Rattle.walls.specs.declared.Walls.{Walls}
 use Rattle.walls.specs.declared.Sides.{Sides}
 use Rattle.walls.specs.declared.Sheet.{Sheet}
@@ -28,7 +27,7 @@ use Rattle.walls.specs.Numbers.{vertices, numbers_in, noughts, placed, walls_fro
 use Rattle.walls.proofs.Grow.{at_get_d}
 
 -- THE PROMISE OF `walls_of` ALLOWS ONE ANSWER
-pub one_answer : (j : Job) (z : Sizes) (r t : Walls) → r ≡ walls_of j z → t ≡ walls_of j z → r ≡ t
+pub one_answer : (j : Job) (z : Sizes) (r t : Held Walls) → r ≡ walls_of j z → t ≡ walls_of j z → r ≡ t
 one_answer j z r t p q = p ∙ sym q
 
 -- the numbers of walls are those of two lists of numbers, side by side
@@ -49,10 +48,6 @@ pub record TextNumbers (j : Job) (z : Sizes) (w : Walls) : Type 0 where
   pub most_upright : (s : ℕ) → f s ≤ top_of upright j z
   pub most_level : (s : ℕ) → g s ≤ top_of level j z
 
--- walls that run in a circle are not numbered
-not_round : Round ≡ Numbered → ⊥
-not_round e = let z : ◌≡◌ {A = ℕ} 0 1 = cc in omega arith
-
 -- the numbers that any walls with numbers have, whatever the stars
 pub record Counted (j : Job) (z : Sizes) (w : Walls) : Type 0 where
   pub xs : List ℕ
@@ -63,9 +58,17 @@ pub record Counted (j : Job) (z : Sizes) (w : Walls) : Type 0 where
   pub named : Named j
   pub reads : Reads w (length j + 4) (at xs) (at ys)
 
--- no numbers are not some
-nothing : {f : List ℕ} → none ≡ some f → ⊥
+-- nothing is not something
+pub nothing : {A : Type 0} {x : A} → none ≡ some x → ⊥
 nothing e = let z : ◌≡◌ {A = ℕ} 0 1 = cc in omega arith
+
+-- so it is of what is held
+pub not_held : {A : Type 0} {x : A} → None ≡ Some x → ⊥
+not_held e = let z : ◌≡◌ {A = ℕ} 0 1 = cc in omega arith
+
+-- what is held twice is the same
+pub held_same : {A : Type 0} {x y : A} → Some x ≡ Some y → x ≡ y
+held_same e = cc
 
 module _ (j : Job) (z : Sizes) where
   -- where the test says that every neighbour is a vertex of the job, every neighbour is
@@ -103,18 +106,18 @@ module _ (j : Job) (z : Sizes) where
   at_place u l s h = get_or-append u (drop (length u) noughts) 0 s (omega arith) ∙ at_get_d u s (omega arith)
 
   -- WALLS WITH NUMBERS: both directions have them, and the sides read them
-  pub counted : (walls_of j z).answer ≡ Numbered → Counted j z (walls_of j z)
+  pub counted : (w : Walls) → walls_of j z ≡ Some w → Counted j z w
   unfolding walls_of walls_from
-  counted e = go (numbers_in upright j z) refl (numbers_in level j z) refl e
+  counted w e = go (numbers_in upright j z) refl (numbers_in level j z) refl e
     where
-      go : (a : Option (List ℕ)) → numbers_in upright j z ≡ a → (b : Option (List ℕ)) → numbers_in level j z ≡ b → (walls_from a b).answer ≡ Numbered
-          → Counted j z (walls_from a b)
-      go none p b q e = absurd (not_round e)
-      go (some u) p none q e = absurd (not_round e)
+      go : (a : Option (List ℕ)) → numbers_in upright j z ≡ a → (b : Option (List ℕ)) → numbers_in level j z ≡ b → walls_from a b ≡ Some w
+          → Counted j z w
+      go none p b q e = absurd (not_held e)
+      go (some u) p none q e = absurd (not_held e)
       go (some u) p (some v) q e =
           let (r, vs, x) = sides_numbered upright u p in
           let (r', vs', y) = sides_numbered level v q in
-          record {
+          rw (← held_same e) (record {
             xs = u;
             ys = v;
             is_upright = p;
@@ -130,25 +133,25 @@ module _ (j : Job) (z : Sizes) where
               );
               sheet = rw (at_place u x (low 3) (omega arith), at_place v y (low 0) (omega arith));
             };
-          }
+          })
 
   -- A SHEET IS NEVER WIDER OR HIGHER than the rooms one after the other, and the frame, whatever the stars
-  pub sheet_most : (c : Counted j z (walls_of j z)) → ((sheet_of (walls_of j z)).width ≤ 1 + top_of upright j z) × ((sheet_of (walls_of j z)).height ≤ 1 + top_of level j z)
-  sheet_most c =
-      let w : (sheet_of (walls_of j z)).width ≡ at c.xs (low 3) + 1 = ap (λ (s : Sheet). s.width) c.reads.sheet in
-      let h : (sheet_of (walls_of j z)).height ≡ at c.ys (low 0) + 1 = ap (λ (s : Sheet). s.height) c.reads.sheet in
+  pub sheet_most : (w : Walls) → (c : Counted j z w) → ((sheet_of w).width ≤ 1 + top_of upright j z) × ((sheet_of w).height ≤ 1 + top_of level j z)
+  sheet_most w c =
+      let x : (sheet_of w).width ≡ at c.xs (low 3) + 1 = ap (λ (s : Sheet). s.width) c.reads.sheet in
+      let y : (sheet_of w).height ≡ at c.ys (low 0) + 1 = ap (λ (s : Sheet). s.height) c.reads.sheet in
       (omega (arith, most_numbered upright c.xs c.is_upright (low 3)), omega (arith, most_numbered level c.ys c.is_level (low 0)))
 
   -- WALLS IN A CIRCLE: a direction has no numbers
-  pub circled : (walls_of j z).answer ≡ Round → (numbers_in upright j z ≡ none) ⊎ (numbers_in level j z ≡ none)
+  pub circled : walls_of j z ≡ None → (numbers_in upright j z ≡ none) ⊎ (numbers_in level j z ≡ none)
   unfolding walls_of walls_from
   circled e = go (numbers_in upright j z) refl (numbers_in level j z) refl e
     where
-      go : (a : Option (List ℕ)) → numbers_in upright j z ≡ a → (b : Option (List ℕ)) → numbers_in level j z ≡ b → (walls_from a b).answer ≡ Round
+      go : (a : Option (List ℕ)) → numbers_in upright j z ≡ a → (b : Option (List ℕ)) → numbers_in level j z ≡ b → walls_from a b ≡ None
           → (numbers_in upright j z ≡ none) ⊎ (numbers_in level j z ≡ none)
       go none p b q e = inl p
       go (some u) p none q e = inr q
-      go (some u) p (some v) q e = absurd (not_round (sym e))
+      go (some u) p (some v) q e = absurd (not_held (sym e))
 
 module _ (j : Job) (z : Sizes) (rooms : test2 (length j) ≡ true) (ok : Passes j) where
   -- every neighbour of a job past tests 1 to 6 is a vertex
@@ -173,7 +176,7 @@ module _ (j : Job) (z : Sizes) (rooms : test2 (length j) ≡ true) (ok : Passes 
   right a = job_numbers_right a j z (to_vertex j ok)
 
   -- THE ANSWER IS A CIRCLE, refusal 7, exactly when no whole numbers can be put in one direction or the other
-  pub circle_exactly : ((walls_of j z).answer ≡ Round) ↔ (Circle (rules upright j z) ⊎ Circle (rules level j z))
+  pub circle_exactly : (walls_of j z ≡ None) ↔ (Circle (rules upright j z) ⊎ Circle (rules level j z))
   unfolding walls_from
   circle_exactly = (
     λ e. forth (job_numbers upright j z) (job_numbers level j z) (right upright) (right level) (rw walls_are at e),
@@ -181,35 +184,35 @@ module _ (j : Job) (z : Sizes) (rooms : test2 (length j) ≡ true) (ok : Passes 
   )
     where
       forth : (a b : Option (List ℕ)) → Right (rules upright j z) (2 * (length j + 4)) a → Right (rules level j z) (2 * (length j + 4)) b
-          → (walls_from a b).answer ≡ Round → Circle (rules upright j z) ⊎ Circle (rules level j z)
+          → walls_from a b ≡ None → Circle (rules upright j z) ⊎ Circle (rules level j z)
       forth none b x y e = inl x
       forth (some u) none x y e = inr y
-      forth (some u) (some v) x y e = absurd (not_round (sym e))
+      forth (some u) (some v) x y e = absurd (not_held (sym e))
 
       back : (a b : Option (List ℕ)) → Right (rules upright j z) (2 * (length j + 4)) a → Right (rules level j z) (2 * (length j + 4)) b
-          → Circle (rules upright j z) ⊎ Circle (rules level j z) → (walls_from a b).answer ≡ Round
+          → Circle (rules upright j z) ⊎ Circle (rules level j z) → walls_from a b ≡ None
       back none b x y c = refl
       back (some u) none x y c = refl
       back (some u) (some v) x y (inl c) = absurd (c (at u) (numbers_respects (rules upright j z) (at u) x.0))
       back (some u) (some v) x y (inr c) = absurd (c (at v) (numbers_respects (rules level j z) (at v) y.0))
 
   -- an answer is refusal 7 exactly if it says that the walls run in a circle
-  refused_round : (a : Answer) → (refusal_of a ≡ some 7) ↔ (a ≡ Round)
+  refused_round : (a : Held Walls) → (refusal_of a ≡ some 7) ↔ (a ≡ None)
   unfolding refusal_of
-  refused_round Numbered = (λ e. absurd (let z : ◌≡◌ {A = ℕ} 0 1 = cc in omega arith), λ e. absurd (not_round (sym e)))
-  refused_round Round = (λ e. refl, λ e. refl)
+  refused_round (Some w) = (λ e. absurd (nothing e), λ e. absurd (not_held (sym e)))
+  refused_round None = (λ e. refl, λ e. refl)
 
   -- THE ANSWER IS REFUSAL 7 exactly when drawing the job is
-  pub refused_exactly : (refusal_of (walls_of j z).answer ≡ some 7) ↔ (drawn (sized_job j z) ≡ refused 7)
+  pub refused_exactly : (refusal_of (walls_of j z) ≡ some 7) ↔ (drawn (sized_job j z) ≡ refused 7)
   refused_exactly = (
-    λ e. (seven (sized_job j z) ok).1 (circle_exactly.0 ((refused_round (walls_of j z).answer).0 e)),
-    λ e. (refused_round (walls_of j z).answer).1 (circle_exactly.1 ((seven (sized_job j z) ok).0 e)),
+    λ e. (seven (sized_job j z) ok).1 (circle_exactly.0 ((refused_round (walls_of j z)).0 e)),
+    λ e. (refused_round (walls_of j z)).1 (circle_exactly.1 ((seven (sized_job j z) ok).0 e)),
   )
 
   -- NUMBERED: by the text, least, and not above the top
-  pub numbered : (walls_of j z).answer ≡ Numbered → TextNumbers j z (walls_of j z)
-  numbered e =
-      let c = counted j z e in
+  pub numbered : (w : Walls) → walls_of j z ≡ Some w → TextNumbers j z w
+  numbered w e =
+      let c = counted j z w e in
       let x = subst (Right (rules upright j z) (2 * (length j + 4))) (sym (by_definition upright) ∙ c.is_upright) (right upright) in
       let y = subst (Right (rules level j z) (2 * (length j + 4))) (sym (by_definition level) ∙ c.is_level) (right level) in
       record {

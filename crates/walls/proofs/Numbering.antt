@@ -1,9 +1,10 @@
--- The numbers of any held stars. Assumes nothing.
-use mathlib.Core.Path.{◌≡◌, refl, sym, ap, ◌∙◌}
+-- The numbers of any held stars. Assumes not_held.
+use mathlib.Core.Path.{◌≡◌, refl, sym, ◌∙◌}
 use mathlib.Core.Bool.{Bool, true, false, not, ◌&&◌}
 use mathlib.Core.Option.{Option, none, some}
 use mathlib.Core.List.{List, [], ◌∷◌, ◌++◌}
-use Prim.Native.Nat.{ℕ, zero, suc, ◌+◌, ◌*◌, ◌≤◌, ◌<◌}
+use Rattle.std.specs.Prelude.{None, Some}
+use Prim.Native.Nat.{ℕ, ◌+◌, ◌*◌, ◌≤◌, ◌<◌}
 use native.Mathlib.Omega.{arith}
 use borrow.Author.Tests.{le-leb, lt-leb, leb-true, ltb-true, lt-ltb, not-true, not-false}
 use lib.Dec.{leb, ltb}
@@ -19,11 +20,9 @@ use Rattle.stars.specs.Held.{job_in}
 use Rattle.stars.proofs.Holding.{length_stars}
 use Rattle.walls.specs.Steps.{Answers, Fronts}
 use Rattle.walls.specs.Jobs.{entry_named, star_named, named}
-use Rattle.walls.specs.Numbers.{vertices, numbers_in, numbers_held, width_in, no_walls, walls_from}
-use Rattle.walls.specs.declared.Answer.TheVariants.{Numbered, Circle}
-use Rattle.walls.specs.declared.Numbers.{Numbers}
-use Rattle.walls.specs.declared.Walls.{Walls}
+use Rattle.walls.specs.Numbers.{vertices, numbers_in, numbers_held, width_in, walls_from}
 use Rattle.walls.proofs.Visiting.{all_named}
+use Rattle.walls.proofs.Corollaries.{not_held, held_same}
 
 module _ {A : Type 0} where
   -- tests that agree on every member agree on whether all pass
@@ -43,12 +42,6 @@ vertices_named j = all_same (all (λ (e : Entry). is_vertex j e.to)) (all (entry
         (λ h. lt-ltb (high e.to) (2 * (length j + 4)) (omega (arith, leb-true e.to (length j + 3) h)))
         (λ h. le-leb e.to (length j + 3) (omega (arith, ltb-true (high e.to) (2 * (length j + 4)) h)))
 
--- noughts in front of noughts
-noughts_behind : (n m : ℕ) → n ≤ m → replicate {A = ℕ} n 0 ++ drop n (replicate {A = ℕ} m 0) ≡ replicate {A = ℕ} m 0
-noughts_behind zero m h = refl
-noughts_behind (suc n) zero h = absurd (omega arith)
-noughts_behind (suc n) (suc m) h = ap (λ (l : List ℕ). 0 ∷ l) (noughts_behind n m (omega arith))
-
 module _ (ends nbr kind : List ℕ) (n : ℕ) where
   -- the job of the held stars
   abbrev job : Job
@@ -59,12 +52,12 @@ module _ (ends nbr kind : List ℕ) (n : ℕ) where
   good = test2 (length job) && vertices job
 
   -- a job that cannot be numbered has no walls with numbers
-  pub none_good : (z : Sizes) (b : Bool) (w : Walls) → b ≡ good → not b ≡ true → w ≡ no_walls → w ≡ walls_from (numbers_in upright job z) (numbers_in level job z)
+  pub none_good : (z : Sizes) (b : Bool) → b ≡ good → not b ≡ true → None ≡ walls_from (numbers_in upright job z) (numbers_in level job z)
   unfolding walls_from numbers_in
-  none_good z b w q f e = let g : good ≡ false = sym q ∙ not-true b f in rw g e
+  none_good z b q f = let g : good ≡ false = sym q ∙ not-true b f in rw g
 
   -- so it has no width by its upright numbers
-  pub no_width : (z : Sizes) (b : Bool) → b ≡ good → not b ≡ true → 0 ≡ width_in (numbers_in upright job z)
+  pub no_width : (z : Sizes) (b : Bool) → b ≡ good → not b ≡ true → None ≡ width_in (numbers_in upright job z)
   unfolding width_in numbers_in
   no_width z b q f = let g : good ≡ false = sym q ∙ not-true b f in rw g
 
@@ -77,9 +70,9 @@ module _ (ends nbr kind : List ℕ) (n : ℕ) where
   held_rooms = length_stars n 0 ends nbr kind
 
   -- without rooms it cannot be numbered
-  pub no_room : n ≡ 0 → false ≡ good
+  pub no_room : n < 1 → false ≡ good
   unfolding test2
-  no_room z = rw (held_rooms, z)
+  no_room z = rw (held_rooms, lt-leb 1 n z)
 
   -- with more than 60 rooms it cannot be numbered
   pub many_rooms : 60 < n → false ≡ good
@@ -87,10 +80,10 @@ module _ (ends nbr kind : List ℕ) (n : ℕ) where
   many_rooms z = rw (held_rooms, le-leb 1 n (omega arith), lt-leb n 60 z)
 
   -- with 1 to 60 rooms it can be numbered exactly if every neighbour has its sides among those of the vertices
-  pub some_rooms : (r : Bool) → (n ≡ 0 → ⊥) → n ≤ 60 → r ≡ named (2 * (n + 4)) job → r ≡ good
+  pub some_rooms : (r : Bool) → 1 ≤ n → n ≤ 60 → r ≡ named (2 * (n + 4)) job → r ≡ good
   unfolding test2
   some_rooms r x y q =
-      rw (vertices_named job, held_rooms, le-leb 1 n (omega arith), le-leb n 60 y) q
+      rw (vertices_named job, held_rooms, le-leb 1 n x, le-leb n 60 y) q
 
   module _ (both_good : good ≡ true) where
     -- it has at most 60 rooms
@@ -119,20 +112,25 @@ module _ (ends nbr kind : List ℕ) (n : ℕ) where
     right : (a : Axis) (z : Sizes) → Right (rules a job z) (2 * (n + 4)) (job_numbers a job z)
     right a z = rw held_rooms at (job_numbers_right a job z (all_named (2 * (n + 4)) job all_vertices (omega (arith, held_rooms))))
 
-    -- the answer, left in front of noughts, is the numbers of that direction as they are held
-    pub held_numbers : (a : Axis) (z : Sizes) (r : Bool) (l l' : List ℕ) → l ≡ replicate 128 0 → Fronts r (rules a job z) (2 * (n + 4)) l l'
-        → record { found = r; list = l' } ≡ numbers_held (numbers_in a job z)
+    -- the numbers, left in front of noughts, are those of that direction as they are held
+    pub numbers_some : (a : Axis) (z : Sizes) (r : Bool) (l l' : List ℕ) → l ≡ replicate 128 0 → Fronts r (rules a job z) (2 * (n + 4)) l l' → r ≡ true
+        → Some l' ≡ numbers_held (numbers_in a job z)
     unfolding numbers_held
-    held_numbers a z r l l' e x = go r x.front x.answers (rw e at x.is)
-      where
-        go : (b : Bool) (f : List ℕ) → Answers b (rules a job z) f (2 * (n + 4)) → l' ≡ f ++ drop (2 * (n + 4)) (replicate 128 0)
-            → record { found = b; list = l' } ≡ numbers_held (numbers_in a job z)
-        go true f y e =
-            let u : job_numbers a job z ≡ some f = right_unique (rules a job z) (2 * (n + 4)) (job_numbers a job z) (some f) (right a z) y in
-            rw (one_way a z, u, e, y.1)
-        go false f y e =
-            let u : job_numbers a job z ≡ none = right_unique (rules a job z) (2 * (n + 4)) (job_numbers a job z) none (right a z) y.0 in
-            rw (one_way a z, u, e, y.1, noughts_behind (2 * (n + 4)) 128 (omega (arith, rooms_fit)))
+    numbers_some a z r l l' e x t =
+        let y : Answers true (rules a job z) x.front (2 * (n + 4)) = rw t at x.answers in
+        let u : job_numbers a job z ≡ some x.front
+        = right_unique (rules a job z) (2 * (n + 4)) (job_numbers a job z) (some x.front) (right a z) y in
+        let i : l' ≡ x.front ++ drop (2 * (n + 4)) (replicate 128 0) = rw e at x.is in
+        rw (one_way a z, u, i, y.1)
+
+    -- where there are none, that direction has none
+    pub numbers_none : (a : Axis) (z : Sizes) (r : Bool) (l l' : List ℕ) → Fronts r (rules a job z) (2 * (n + 4)) l l' → r ≡ false
+        → None ≡ numbers_held (numbers_in a job z)
+    unfolding numbers_held
+    numbers_none a z r l l' x t =
+        let y : Answers false (rules a job z) x.front (2 * (n + 4)) = rw t at x.answers in
+        let u : job_numbers a job z ≡ none = right_unique (rules a job z) (2 * (n + 4)) (job_numbers a job z) none (right a z) y in
+        rw (one_way a z, u)
 
 -- the first numbers of a list
 pub front_length : (n : ℕ) (l : List ℕ) → n ≤ length l → n ≡ length (take n l)
@@ -147,30 +145,22 @@ pub front_answers : (b : Bool) (E : List Rule) (n : ℕ) (l f : List ℕ) → n 
 front_answers b E n l f h a = record { front = f; answers = rw (length-take-le n l h) at a; is = refl }
 
 -- both directions have their numbers
-pub both_numbered : (a b : Option (List ℕ)) (x y : Numbers) → x ≡ numbers_held a → y ≡ numbers_held b → not x.found ≡ false → not y.found ≡ false
-    → ◌≡◌ {A = Walls} (record { answer = Numbered; uprights = record { 0 = x.list }; levels = record { 0 = y.list } }) (walls_from a b)
+pub both_numbered : (a b : Option (List ℕ)) (x y : List ℕ) → Some x ≡ numbers_held a → Some y ≡ numbers_held b
+    → Some (record { uprights = record { 0 = x }; levels = record { 0 = y } }) ≡ walls_from a b
 unfolding numbers_held walls_from
-both_numbered none b x y p q f g = absurd (let z : ◌≡◌ {A = ℕ} 0 1 = cc (rw p at f) in omega arith)
-both_numbered (some u) none x y p q f g = absurd (let z : ◌≡◌ {A = ℕ} 0 1 = cc (rw q at g) in omega arith)
-both_numbered (some u) (some v) x y p q f g = rw (p, q)
+both_numbered none b x y p q = absurd (not_held (sym p))
+both_numbered (some u) none x y p q = absurd (not_held (sym q))
+both_numbered (some u) (some v) x y p q = rw (held_same p, held_same q)
 
 -- one has none
-pub first_none : (a b : Option (List ℕ)) (x : Numbers) (w : Walls) → x ≡ numbers_held a → not x.found ≡ true → w ≡ no_walls → w ≡ walls_from a b
+pub first_none : (a b : Option (List ℕ)) → None ≡ numbers_held a → None ≡ walls_from a b
 unfolding numbers_held walls_from
-first_none none b x w p f e = e
-first_none (some u) b x w p f e = absurd (let z : ◌≡◌ {A = ℕ} 0 1 = cc (rw p at f) in omega arith)
+first_none none b p = refl
+first_none (some u) b p = absurd (not_held p)
 
--- the second has none: the walls are without numbers
-pub second_none : (a b : Option (List ℕ)) (y : Numbers) (w : Walls) → y ≡ numbers_held b → not y.found ≡ true → w ≡ no_walls → w ≡ walls_from a b
+-- the second has none
+pub second_none : (a b : Option (List ℕ)) → None ≡ numbers_held b → None ≡ walls_from a b
 unfolding numbers_held walls_from
-second_none none b y w q f e = e
-second_none (some u) none y w q f e = e
-second_none (some u) (some v) y w q f e = absurd (let z : ◌≡◌ {A = ℕ} 0 1 = cc (rw q at f) in omega arith)
-
--- noughts in both directions, and that the walls run in a circle, are the walls without numbers
-pub no_numbers : (l : List ℕ) → l ≡ replicate 128 0 → ◌≡◌ {A = Walls} (record {
-  answer = Circle;
-  uprights = record { 0 = l };
-  levels = record { 0 = l };
-}) no_walls
-no_numbers l e = rw e
+second_none none b q = refl
+second_none (some u) none q = refl
+second_none (some u) (some v) q = absurd (not_held q)

@@ -1,39 +1,20 @@
 -- Passes until nothing changes.
 -- Assumes nothing.
-use mathlib.Core.Path.{◌≡◌, sym, ◌∙◌}
-use mathlib.Core.Bool.{Bool, true, false}
+use mathlib.Core.Path.{◌≡◌, ◌∙◌}
+use mathlib.Core.Logic.{◌⊎◌, inl, inr}
+use mathlib.Core.Bool.{Bool, true}
 use mathlib.Core.List.{List, [], ◌∷◌}
-use Prim.Native.Nat.{ℕ, suc, ◌+◌, ◌-◌, ◌*◌, ◌≤◌, ◌<◌}
+use Prim.Native.Nat.{ℕ, suc, ◌-◌, ◌*◌, ◌≤◌, ◌<◌}
 use native.Mathlib.Nat.{suc-mul}
 use native.Mathlib.Decide.{dec_lt}
 use native.Mathlib.Omega.{arith}
-use lib.ListN.{length, get_or, set, replicate, length-replicate, get_or-replicate, get_or-eq_default}
-use lib.Seq.{ext_get_or, get_or-set_same, get_or-set_other}
+use lib.ListN.{length, replicate, length-replicate, get_or-replicate, get_or-eq_default}
 use Rattle.walls.specs.declared.Step.{Step}
 use Rattle.walls.specs.declared.Step.TheVariants.{Kept, Raised, Over}
 use Rattle.floor.specs.Walls.{Rule, Circle, at}
 use Rattle.floor.specs.Walls.Relax.{total, Reached}
 use Rattle.floor.proofs.Walls.Relax.{reached_numbers, ones_reached}
-use Rattle.walls.specs.Steps.{Ran, Climbs, Rose, Grew, Capped, Passed, Enough, Answers, is_over}
-
--- the first i numbers are v
-abbrev pub Filled : List ℕ → ℕ → ℕ → Type 0
-Filled f i v = (j : ℕ) → j < i → get_or f j 0 ≡ v
-
--- the number behind the first i made v as well, the first i + 1 are v
-pub filled_more : (f : List ℕ) (i v : ℕ) → i < length f → Filled f i v → Filled (set f i v) (i + 1) v
-filled_more f i v l h j k = go (dec_lt j i)
-  where
-    go : Dec (j < i) → get_or (set f i v) j 0 ≡ v
-    go (yes b) = get_or-set_other f i j v 0 (omega arith) ∙ h j b
-    go (no b) =
-        let e : j ≡ i = omega arith in
-        rw e (get_or-set_same f i v 0 l)
-
--- a list of n numbers that are all v is v repeated n times
-pub filled_all : (f : List ℕ) (i n v : ℕ) → length f ≡ n → n ≤ i → Filled f i v → f ≡ replicate n v
-filled_all f i n v e l h =
-    ext_get_or 0 f (replicate n v) (e ∙ sym (length-replicate {A = ℕ} n v)) (λ j b. h j (omega arith) ∙ sym (get_or-replicate {A = ℕ} n j v 0 (omega arith)))
+use Rattle.walls.specs.Steps.{Ran, Climbs, Rose, Grew, Capped, Passed, Enough, Answers}
 
 -- ones are not above the top, where that is at least 1
 pub ones_capped : (n top : ℕ) → 1 ≤ top → (s : ℕ) → at (replicate n 1) s ≤ top
@@ -76,23 +57,21 @@ module _ (E : List Rule) (s : Step) (f f' : List ℕ) (top n : ℕ) (e : s ≡ R
 pub passed_circle : (E : List Rule) (top : ℕ) → Enough E top → Passed E top → Circle E
 passed_circle E top en w g r = omega (arith, en g r w.side w.count w.walk, w.more)
 
--- a pass that comes past the top: the walls run in a circle, and the numbers are noughts
-pub ran_circle : (E : List Rule) (s : Step) (f f₁ f' : List ℕ) (top n : ℕ) → s ≡ Over → Ran s E f f₁ top → Reached E f → Enough E top → length f₁ ≡ n
-    → f' ≡ replicate (length f₁) 0 → Answers false E f' n
-ran_circle E s f f₁ f' top n e p k en l q =
+-- a pass that comes past the top: the walls run in a circle
+pub ran_circle : (E : List Rule) (s : Step) (f f₁ : List ℕ) (top : ℕ) → s ≡ Over → Ran s E f f₁ top → Reached E f → Enough E top → Circle E
+ran_circle E s f f₁ top e p k en =
     let o : Ran Over E f f₁ top = rw e at p in
-    (passed_circle E top en (o E (λ r m. m) k), rw (← l) q)
+    passed_circle E top en (o E (λ r m. m) k)
 
 -- rules run in some order from ones, none past the top: what was raised is reached, and is not above the top
-module _ (E : List Rule) (s : Step) (f f' : List ℕ) (top n : ℕ) (e : f ≡ replicate n 1) (p : Climbs s E f f' top) (no : is_over s ≡ false) where
+module _ (E : List Rule) (s : Step) (f f' : List ℕ) (top n : ℕ) (e : f ≡ replicate n 1) (p : Climbs s E f f' top) (no : (s ≡ Kept) ⊎ (s ≡ Raised)) where
   -- numbers were raised or stayed, by the rules, and not past the top
   rose : Rose E f f' top
-  rose = go s p no
+  rose = go no
     where
-      go : (t : Step) → Climbs t E f f' top → is_over t ≡ false → Rose E f f' top
-      go Kept q z = q
-      go Raised q z = q
-      go Over q z = absurd (let y : ◌≡◌ {A = ℕ} 0 1 = cc in omega arith)
+      go : (s ≡ Kept) ⊎ (s ≡ Raised) → Rose E f f' top
+      go (inl q) = rw q at p
+      go (inr q) = rw q at p
 
   -- walks reach the numbers
   pub climbed_reached : Reached E f'
@@ -103,14 +82,10 @@ module _ (E : List Rule) (s : Step) (f f' : List ℕ) (top n : ℕ) (e : f ≡ r
   climbed_capped t = rose.capped (rw e (ones_capped n top t))
 
 -- rules run in some order, one past the top: a circle
-pub climbed_circle : (E : List Rule) (s : Step) (f f₁ f' : List ℕ) (top n m : ℕ) → f ≡ replicate n 1 → Climbs s E f f₁ top → is_over s ≡ true → Enough E top
-    → length f₁ ≡ m → f' ≡ replicate (length f₁) 0 → Answers false E f' m
-climbed_circle E s f f₁ f' top n m e p o en l q = (passed_circle E top en (go s p o), rw (← l) q)
-  where
-    go : (t : Step) → Climbs t E f f₁ top → is_over t ≡ true → Passed E top
-    go Kept c z = absurd (let y : ◌≡◌ {A = ℕ} 0 1 = cc in omega arith)
-    go Raised c z = absurd (let y : ◌≡◌ {A = ℕ} 0 1 = cc in omega arith)
-    go Over c z = c (rw e (ones_reached E n))
+pub climbed_circle : (E : List Rule) (s : Step) (f f₁ : List ℕ) (top n : ℕ) → f ≡ replicate n 1 → Climbs s E f f₁ top → s ≡ Over → Enough E top → Circle E
+climbed_circle E s f f₁ top n e p o en =
+    let c : Climbs Over E f f₁ top = rw o at p in
+    passed_circle E top en (c (rw e (ones_reached E n)))
 
 -- an answer for m sides is one for n sides, where m is n
 pub answers_same : (E : List Rule) (b : Bool) (f : List ℕ) (m n : ℕ) → m ≡ n → Answers b E f m → Answers b E f n

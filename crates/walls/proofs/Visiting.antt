@@ -13,11 +13,13 @@ use Rattle.floor.specs.Walls.{Rule, before, low, high, extra, top_of, entry_rule
 use Rattle.floor.proofs.Walls.Rules.{Told, Named, entry_every, every_told, job_walk}
 use Rattle.stars.specs.Held.{to_at, entry_at, cells, start_of, end_of, held_star, job_in}
 use Rattle.stars.specs.Pairs.{pair}
+use Rattle.stars.specs.Sized.{sizes_lent}
 use Rattle.stars.proofs.Holding.{star_in, length_stars}
 use Rattle.walls.specs.declared.Step.{Step}
 use Rattle.walls.specs.declared.Step.TheVariants.{Kept}
 use Rattle.walls.specs.declared.Direction.{Direction}
-use Rattle.walls.specs.Steps.{Among, Ran, Climbs, Enough, both}
+use Rattle.walls.specs.declared.rules.Rules.{Rules}
+use Rattle.walls.specs.Steps.{Among, Ran, Climbs, Enough, both, rules_of, sides_of}
 use Rattle.walls.specs.Jobs.{axis_of, entry_named, star_named, named, top_of_rooms}
 use Rattle.walls.proofs.Running.{ran_climbs, climbs_both}
 
@@ -124,3 +126,8 @@ job_enough ends nbr kind n m top w z b e q g r s v walk =
     let l : length j ≡ n = length_stars n 0 ends nbr kind in
     let k : top_of (axis_of w) j z ≡ top_of_rooms (axis_of w) n z = ap (λ (x : ℕ). top_of_rooms (axis_of w) x z) l in
     omega (arith, k, q, job_walk (axis_of w) j z (all_named m j b (omega arith)) g r s v walk)
+
+-- where numbers can be put on the walls, no walk passes the top
+pub rules_enough : (r : Rules) → Enough (rules_of r) r.top
+rules_enough r =
+    job_enough r.stars.ends.now r.stars.nbr.now r.stars.kind.now r.stars.count (sides_of r) r.top r.way (sizes_lent r.sizes) r.in_job refl r.is_top

@@ -1,13 +1,10 @@
 -- The numbers of both directions, and how they are handed back. Assumes nothing.
-use Rattle.std.specs.Prelude.{Bool, true, false, cond, ◌&&◌, List, ◌++◌, ℕ, ◌+◌, length, get_or, replicate, drop}
+use Rattle.std.specs.Prelude.{Option as Held, None, Some, Bool, cond, ◌&&◌, List, ◌++◌, ℕ, ◌+◌, length, get_or, replicate, drop}
 use Rattle.std.proofs.Math.Option.{Option, none, some}
 use Rattle.floor.specs.Lists.{all}
 use Rattle.floor.specs.Jobs.{Entry, Job, Sizes, is_vertex, test2}
 use Rattle.floor.specs.Walls.{Axis, upright, level, low, high, at, job_numbers}
-use Rattle.walls.specs.declared.Answer.{Answer}
-use Rattle.walls.specs.declared.Answer.TheVariants.{Numbered, Circle}
 use Rattle.walls.specs.declared.Walls.{Walls}
-use Rattle.walls.specs.declared.Numbers.{Numbers}
 use Rattle.walls.specs.declared.Sides.{Sides}
 use Rattle.walls.specs.declared.Sheet.{Sheet}
 
@@ -27,33 +24,29 @@ noughts = replicate 128 0
 abbrev pub placed : List ℕ → List ℕ
 placed f = f ++ drop (length f) noughts
 
--- the numbers of one direction, as they are held; none: noughts
-unfoldable pub numbers_held : Option (List ℕ) → Numbers
-numbers_held none = record { found = false; list = noughts }
-numbers_held (some f) = record { found = true; list = placed f }
+-- the numbers of one direction, as they are held: noughts behind them
+unfoldable pub numbers_held : Option (List ℕ) → Held (List ℕ)
+numbers_held none = None
+numbers_held (some f) = Some (placed f)
 
--- the width of the sheet by the upright numbers: that of E's left wall plus 1; none: 0
-unfoldable pub width_in : Option (List ℕ) → ℕ
-width_in none = 0
-width_in (some f) = at f (low 3) + 1
+-- the width of the sheet by the upright numbers: that of E's left wall plus 1; none: none
+unfoldable pub width_in : Option (List ℕ) → Held ℕ
+width_in none = None
+width_in (some f) = Some (at f (low 3) + 1)
 
--- the refusal that an answer is, if it is one: 7 where the walls run in a circle
-unfoldable pub refusal_of : Answer → Option ℕ
-refusal_of Numbered = none
-refusal_of Circle = some 7
-
--- the walls of which a direction has no numbers
-abbrev pub no_walls : Walls
-no_walls = record { answer = Circle; uprights = record { 0 = noughts }; levels = record { 0 = noughts } }
+-- the refusal that an answer is, if it is one: 7 where there are no walls, which is where they run in a circle
+unfoldable pub refusal_of : Held Walls → Option ℕ
+refusal_of (Some w) = none
+refusal_of None = some 7
 
 -- the numbers of both directions
-unfoldable pub walls_from : Option (List ℕ) → Option (List ℕ) → Walls
-walls_from (some f) (some g) = record { answer = Numbered; uprights = record { 0 = placed f }; levels = record { 0 = placed g } }
-walls_from (some f) none = no_walls
-walls_from none b = no_walls
+unfoldable pub walls_from : Option (List ℕ) → Option (List ℕ) → Held Walls
+walls_from (some f) (some g) = Some (record { uprights = record { 0 = placed f }; levels = record { 0 = placed g } })
+walls_from (some f) none = None
+walls_from none b = None
 
--- THE WALLS OF ANY JOB, with any sizes
-unfoldable pub walls_of : Job → Sizes → Walls
+-- THE WALLS OF ANY JOB, with any sizes; none where a direction has no numbers
+unfoldable pub walls_of : Job → Sizes → Held Walls
 walls_of j z = walls_from (numbers_in upright j z) (numbers_in level j z)
 
 -- the walls on the four sides of a vertex, by the upright numbers and the level ones

@@ -1,11 +1,23 @@
 -- What the steps of the code promise. Assumes nothing.
-use Rattle.std.specs.Prelude.{◌≡◌, Bool, true, false, ℕ, zero, suc, ◌+◌, ◌≤◌, ◌<◌, length, set, replicate, drop}
+use Rattle.std.specs.Prelude.{◌≡◌, Bool, true, false, ℕ, zero, suc, ◌+◌, ◌*◌, ◌≤◌, ◌<◌, length, set, drop}
 use mathlib.Core.List.{List, ◌++◌, Memᴰ}
 use Rattle.walls.specs.declared.Step.{Step}
 use Rattle.walls.specs.declared.Step.TheVariants.{Kept, Raised, Over}
-use Rattle.floor.specs.Walls.{Rule, same, before, Numbers, Respects, Circle, at}
+use Rattle.walls.specs.declared.rules.Rules.{Rules}
+use Rattle.walls.specs.Jobs.{axis_of}
+use Rattle.stars.specs.Held.{job_held}
+use Rattle.stars.specs.Sized.{sizes_lent}
+use Rattle.floor.specs.Walls.{Rule, same, before, Numbers, Respects, Circle, at, rules}
 use Rattle.floor.specs.Walls.Walk.{Walk}
 use Rattle.floor.specs.Walls.Relax.{total, Reached}
+
+-- the rules that are said in one direction
+abbrev pub rules_of : Rules → List Rule
+rules_of r = rules (axis_of r.way) (job_held r.stars) (sizes_lent r.sizes)
+
+-- how many sides there are: two for each vertex
+abbrev pub sides_of : Rules → ℕ
+sides_of r = 2 * (r.stars.count + 4)
 
 -- side b against side a
 abbrev pub Lifts : Step → List ℕ → List ℕ → ℕ → ℕ → ℕ → ℕ → Type 0
@@ -66,20 +78,14 @@ both Raised Raised = Raised
 both Raised Over = Over
 both Over t = Over
 
--- a number would pass the top
-abbrev pub is_over : Step → Bool
-is_over Kept = false
-is_over Raised = false
-is_over Over = true
-
 -- where numbers can be put on the walls, no walk passes the top
 abbrev pub Enough : List Rule → ℕ → Type 0
 Enough E top = (g : ℕ → ℕ) → Respects E g → (s v : ℕ) → Walk E s v → v ≤ top
 
--- THE ANSWER: the numbers of the definition; or a circle, and noughts
+-- THE ANSWER: the numbers of the definition; or a circle
 abbrev pub Answers : Bool → List Rule → List ℕ → ℕ → Type 0
 Answers true E f n = Numbers E (at f) × (length f ≡ n)
-Answers false E f n = Circle E × (f ≡ replicate n 0)
+Answers false E f n = Circle E
 
 -- the answer of n sides, in front of a list; what is behind stays
 pub record Fronts (b : Bool) (E : List Rule) (n : ℕ) (l l' : List ℕ) : Type 0 where

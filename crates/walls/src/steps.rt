@@ -1,32 +1,15 @@
 // One rule, and what it does to the numbers.
 ghost use Rattle.std.specs.Prelude.{◌≡◌, [], ◌∷◌, ◌<◌, length};
-ghost use Rattle.walls.specs.Steps.{Lifts, Ran, rule_of, both, is_over};
+ghost use Rattle.walls.specs.Steps.{Lifts, Ran, rule_of, both};
 
 use crate::Step;
 
-// What one step and then another did.
-pub fn both_of(first: Step, then: Step) -> Step
-    ensures { result ≡ both first then }
-{
-    match first {
-        Step::Kept => then,
-        Step::Raised => match then {
-            Step::Kept => Step::Raised,
-            Step::Raised => Step::Raised,
-            Step::Over => Step::Over,
-        },
-        Step::Over => Step::Over,
-    }
-}
-
-// Whether a number would pass the top.
-pub fn is_over(step: Step) -> bool
-    ensures { result ≡ is_over step }
-{
-    match step {
-        Step::Kept => false,
-        Step::Raised => false,
-        Step::Over => true,
+impl Step {
+    // What one step and then another did.
+    pub fn then(self, next: Step) -> Step
+        ensures { result ≡ both self next }
+    {
+        self.max(next)
     }
 }
 
@@ -35,11 +18,11 @@ fn lift(f: &mut [u16], a: usize, b: usize, w: u16, top: u16) -> Step
     requires { (a < length f.old) × (b < length f.old) }
     ensures { Lifts result f.old f.new a b w top }
 {
-    let v = fields::number(f[a]) + fields::number(w);
-    if v <= fields::number(f[b]) {
+    let v = usize::from(f[a]) + usize::from(w);
+    if v <= usize::from(f[b]) {
         return Step::Kept;
     }
-    if fields::number(top) < v {
+    if usize::from(top) < v {
         return Step::Over;
     }
     f[b] = v as u16;

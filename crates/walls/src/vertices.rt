@@ -1,47 +1,38 @@
 // Whether the neighbours of held stars are vertices of the job.
 ghost use Rattle.std.specs.Prelude.{◌≡◌, ◌-◌, ◌<◌, length};
-ghost use Rattle.stars.specs.Held.{cells, held_star, job_in};
+ghost use Rattle.stars.specs.Held.{cells, held_star, job_held};
 ghost use Rattle.walls.specs.Jobs.{star_named, named};
 
+use stars::held::Held;
+
 // Whether the sides of every neighbour, from a place to an end, are among so many.
-fn part_named<'a>(nbr: &'a [u16], kind: &'a [u8], from: usize, end: usize, sides: usize) -> bool
-    ensures { result ≡ star_named sides (cells (end - from) from nbr.now kind.now) }
+fn part_named(stars: &Held, from: usize, end: usize, sides: usize) -> bool
+    ensures { result ≡ star_named sides (cells (end - from) from stars.now.nbr.now stars.now.kind.now) }
 {
-    let mut k = from;
-    while k < end {
-        if sides <= 2 * stars::held::to_at(nbr, k) + 1 {
+    for k in from..end {
+        if sides <= 2 * stars.to_at(k) + 1 {
             return false;
         }
-        k += 1;
     }
     true
 }
 
-// The same of a star.
-fn star_named<'a>(ends: &'a [u16], nbr: &'a [u16], kind: &'a [u8], i: usize, sides: usize) -> bool
-    ensures { result ≡ star_named sides (held_star ends.now nbr.now kind.now i) }
+// The same of star i.
+#[tactic(auto, using(crate::proofs::Telling::star_whole))]
+fn star_named(stars: &Held, i: usize, sides: usize) -> bool
+    ensures { result ≡ star_named sides (held_star stars.now.ends.now stars.now.nbr.now stars.now.kind.now i) }
 {
-    let from = stars::held::start_of(ends, nbr.len(), i);
-    let end = stars::held::end_of(ends, nbr.len(), i);
-    part_named(nbr, kind, from, end, sides)
+    part_named(stars, stars.start_of(i), stars.end_of(i), sides)
 }
 
 // The same of every star.
-pub fn all_named<'a>(
-    ends: &'a [u16],
-    nbr: &'a [u16],
-    kind: &'a [u8],
-    count: usize,
-    sides: usize,
-) -> bool
-    ensures { result ≡ named sides (job_in count ends.now nbr.now kind.now) }
+pub fn all_named(stars: &Held, sides: usize) -> bool
+    ensures { result ≡ named sides (job_held stars.now) }
 {
-    let mut i: usize = 0;
-    while i < count {
-        if !star_named(ends, nbr, kind, i, sides) {
+    for i in 0..stars.count {
+        if !star_named(stars, i, sides) {
             return false;
         }
-        i += 1;
     }
     true
 }

@@ -1,18 +1,21 @@
-use Rattle.cuts.proofs.Writing.{written_fits, wrote_none, wrote_short, wrote_front}
+use Rattle.cuts.proofs.Writing.{written_fits, same_taken, all_taken, wrote_none, wrote_short, wrote_front}
 use borrow.Author.Rules.{rules}
 use Rattle.cuts.proofs.write_cuts.Goals as goal
 
+pub returns-in_default : goal.returns-in_default
+returns-in_default c = wrote_none _ _ _ c.run.ensures.0 _ (search rules)
+
 pub returns-then-out-n : goal.returns-then-out-n
-returns-then-out-n c = wrote_short _ _ _ c.run_plan-sliced.ensures.0 c.in-Yes.n (search rules) _ (search rules)
+returns-then-out-n c = wrote_short _ _ _ c.run.ensures.0 _ c.in-Some.is _ (search rules)
 
-pub slice_bounds-copy_front-end : goal.slice_bounds-copy_front-end
-slice_bounds-copy_front-end c = search (c.run_plan-sliced.ensures.1, rules)
+pub slice_bounds-buf-end : goal.slice_bounds-buf-end
+slice_bounds-buf-end c = written_fits _ _ _ c.run.ensures.0 _ c.in-Some.is
 
-pub copy_front-requires : goal.copy_front-requires
-copy_front-requires c = (search rules, search (written_fits, rules))
+pub slice_bounds-copy_from_slice-end-3 : goal.slice_bounds-copy_from_slice-end-3
+slice_bounds-copy_from_slice-end-3 c = all_taken _ _ _ c.run.ensures.0 _ c.in-Some.is
 
-pub returns-in-No : goal.returns-in-No
-returns-in-No c = wrote_none _ _ _ c.run_plan-sliced.ensures.0 _ (search rules)
+pub copy_from_slice-requires : goal.copy_from_slice-requires
+copy_from_slice-requires c = same_taken _ _ _ c.run.ensures.0 _ c.in-Some.is _ c.if-out-n.false
 
-pub returns-else-out-n : goal.returns-else-out-n
-returns-else-out-n c = wrote_front _ _ _ c.run_plan-sliced.ensures.0 c.in-Yes.n (search rules) _ _ (search rules) (search rules)
+pub returns : goal.returns
+returns c = wrote_front _ _ _ c.run.ensures.0 _ c.in-Some.is _ _ c.if-out-n.false c.copy_from_slice.ensures.after

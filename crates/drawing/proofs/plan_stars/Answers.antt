@@ -1,7 +1,4 @@
 use Rattle.std.proofs.Common.{ap, not}
-use Rattle.floor.specs.Jobs.{sized_job}
-use Rattle.stars.specs.Held.{job_in}
-use Rattle.stars.specs.Sized.{sizes_in}
 use Rattle.drawing.proofs.Judging.{seven_numbered, eighteen_numbered, placed_asks, all_numbered, stars_many}
 use borrow.Author.Rules.{rules}
 use Rattle.drawing.proofs.plan_stars.Goals as goal
@@ -10,19 +7,11 @@ pub returns-in_default : goal.returns-in_default
 returns-in_default c = search (seven_numbered, rules)
 
 pub returns-then-not-sheet_fits : goal.returns-then-not-sheet_fits
-returns-then-not-sheet_fits c =
-    let o = sized_job (job_in c.args.count c.args.ends.now c.args.nbr.now c.args.kind.now) (sizes_in c.args.told c.args.sizes.now) in
-    eighteen_numbered o _ c.walls_of-walls.ensures c.in-Numbered.is _ c.sheet_at-sheet.ensures _ c.sheet_fits.ensures _
-    (ap not c.if-not-sheet_fits.true) c.refused-then-not-sheet_fits.ensures
+returns-then-not-sheet_fits c = search (eighteen_numbered, rules)
 
-pub plan_of-plan-requires : goal.plan_of-plan-requires
-plan_of-plan-requires c =
-    let o = sized_job (job_in c.args.count c.args.ends.now c.args.nbr.now c.args.kind.now) (sizes_in c.args.told c.args.sizes.now) in
-    placed_asks o _ c.walls_of-walls.ensures c.in-Numbered.is _ c.sheet_at-sheet.ensures _ c.sheet_fits.ensures
-    (ap not c.if-not-sheet_fits.false) _ (stars_many _ _ _ _)
+pub plan_of-requires : goal.plan_of-requires
+plan_of-requires c =
+    placed_asks _ _ c.walls_of.ensures _ c.in-Some.is _ c.sheet_at-sheet.ensures _ c.sheet_fits.ensures (ap not c.if-not-sheet_fits.false) _ (stars_many _ _ _ _)
 
 pub returns : goal.returns
-returns c =
-    let o = sized_job (job_in c.args.count c.args.ends.now c.args.nbr.now c.args.kind.now) (sizes_in c.args.told c.args.sizes.now) in
-    all_numbered o _ c.walls_of-walls.ensures c.in-Numbered.is _ c.sheet_at-sheet.ensures _ c.sheet_fits.ensures
-    (ap not c.if-not-sheet_fits.false) _ _ (stars_many _ _ _ _) c.plan_of-plan.ensures
+returns c = search (all_numbered, stars_many, rules)

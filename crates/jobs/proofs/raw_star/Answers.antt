@@ -8,8 +8,8 @@ returns-in_default c = search (raw_fails, rules)
 pub returns-then-room-lt4 : goal.returns-then-room-lt4
 returns-then-room-lt4 c = search (raw_side, rules)
 
-pub returns-then-wide-room : goal.returns-then-wide-room
-returns-then-wide-room c = search (raw_past, rules)
+pub returns-then-from-room : goal.returns-then-from-room
+returns-then-from-room c = search (raw_past, rules)
 
 pub returns : goal.returns
 returns c = search (raw_value, rules)

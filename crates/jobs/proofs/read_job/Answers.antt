@@ -1,12 +1,16 @@
-use Rattle.jobs.proofs.Testing.{few_rooms, pairs_known, sizes_known, read_fails, read_tested}
+use Rattle.floor.specs.Jobs.{first_six, sizes_pass}
+use Rattle.jobs.proofs.Testing.{fits, shaped, read_fails}
+use Rattle.std.proofs.Common.{◌≡◌, Err}
 use borrow.Author.Rules.{rules}
 use Rattle.jobs.proofs.read_job.Goals as goal
 
+pub returns-in_err-shape : goal.returns-in_err-shape
+returns-in_err-shape c =
+    let r : c.from_residual.result ≡ Err c.in_err-shape.field-0.0 = search rules in
+    rw r (read_fails _ _ _ c.in_err-shape.was c.shape_of.ensures.0)
+
 pub tested-requires : goal.tested-requires
-tested-requires c = (search (few_rooms, rules), search (pairs_known, rules), search (sizes_known, rules))
+tested-requires c = fits _ _ _ c.in_ok-shape.was c.shape_of.ensures.1
 
-pub returns-in-Fails : goal.returns-in-Fails
-returns-in-Fails c = search (read_fails, rules)
-
-pub returns-in-Rooms : goal.returns-in-Rooms
-returns-in-Rooms c = search (read_tested, rules)
+pub returns : goal.returns
+returns c = shaped _ _ _ c.in_ok-shape.was (λ x. sizes_pass (first_six x)) _ c.shape_of.ensures.0 c.tested.ensures

@@ -1,3 +1,4 @@
+use Rattle.std.proofs.Common.{ap, not}
 use Rattle.board.proofs.Answering.{stays_tells, ten_rectangle, thirteen_rectangle, answer_rectangle}
 use borrow.Author.Rules.{rules}
 use Rattle.board.proofs.Board.rectangle.Goals as goal
@@ -9,4 +10,5 @@ pub returns-then-not-vertex : goal.returns-then-not-vertex
 returns-then-not-vertex c = search (stays_tells, thirteen_rectangle, rules)
 
 pub returns : goal.returns
-returns c = search (answer_rectangle, rules)
+returns c =
+    answer_rectangle _ c.if-self-eq0.false _ _ c.vertex.ensures (ap not c.if-not-vertex.false) _ (rw (c.lent.ensures.same.0, c.lent.ensures.same.3) at c.rectangle.ensures)

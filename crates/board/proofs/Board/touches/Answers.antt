@@ -12,4 +12,4 @@ returns-then-not-two_vertices c =
 
 pub returns : goal.returns
 returns c =
-    answer_touches _ c.if-self-eq0.false _ _ _ c.two_vertices.ensures (ap not c.if-not-two_vertices.false) _ c.two_touch-touch.ensures
+    answer_touches _ c.if-self-eq0.false _ _ _ c.two_vertices.ensures (ap not c.if-not-two_vertices.false) _ (rw c.lent.ensures.plan at c.two_touch.ensures)

@@ -6,4 +6,5 @@ pub returns-then-self-eq0 : goal.returns-then-self-eq0
 returns-then-self-eq0 c = search (stays_tells, ten_plan, rules)
 
 pub returns : goal.returns
-returns c = search (answer_plan, rules)
+returns c =
+    answer_plan _ c.if-self-eq0.false _ _ _ _ c.wrote-reply.ensures _ c.lent.ensures.plan c.write-written.ensures

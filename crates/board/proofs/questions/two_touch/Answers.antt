@@ -2,7 +2,7 @@ use Rattle.board.proofs.Answering.{touch_twice, touch_two}
 use Rattle.board.proofs.questions.two_touch.Goals as goal
 
 pub returns-then-u-v : goal.returns-then-u-v
-returns-then-u-v c = λ w h. touch_twice _ _ _ _ w h c.if-u-v.true
+returns-then-u-v c = touch_twice _ _ _ _ _ _ c.if-u-v.true
 
 pub returns : goal.returns
-returns c = λ w h. touch_two _ _ _ _ w h _ _ _ c.if-u-v.false c.rectangle-r.ensures c.rectangle-s.ensures c.touch.ensures
+returns c = touch_two _ _ _ _ _ _ _ _ _ c.if-u-v.false c.rectangle.ensures c.rectangle-2.ensures c.touch.ensures

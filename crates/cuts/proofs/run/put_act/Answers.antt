@@ -4,11 +4,11 @@ use Rattle.cuts.proofs.Running.{put_leaf, put_cut}
 use borrow.Author.Rules.{rules}
 use Rattle.cuts.proofs.run.put_act.Goals as goal
 
-pub returns-then-bytes-eq4 : goal.returns-then-bytes-eq4
-returns-then-bytes-eq4 c = search (put_leaf, rules)
+pub returns-in-None : goal.returns-in-None
+returns-in-None c = search (put_leaf, rules)
 
-pub bounds-out-at-3 : goal.bounds-out-at-3
-bounds-out-at-3 c = simp length-set (omega arith)
+pub bounds-out-at-in-Some-2 : goal.bounds-out-at-in-Some-2
+bounds-out-at-in-Some-2 c = simp length-set (omega arith)
 
-pub returns : goal.returns
-returns c = search (put_cut, rules)
+pub returns-in-Some : goal.returns-in-Some
+returns-in-Some c = search (put_cut, rules)

@@ -2,20 +2,19 @@ use borrow.Author.Rules.{rules}
 use Prim.Native.Nat.{◌+◌, ◌-◌, ◌≤◌}
 use mathlib.Core.Path.{refl}
 use native.Mathlib.Omega.{arith}
-use Rattle.cuts.proofs.Running.{stack_long, run_start, run_many, run_long, run_done, run_stuck, run_on, act_few_bytes, act_few_grown, act_some_bytes, twice_set}
+use Rattle.cuts.proofs.Running.{run_start, run_many, run_long, run_done, run_stuck, run_on, act_few_bytes, act_few_grown, act_some_bytes, twice_set}
 use Rattle.cuts.proofs.run.run.Goals as goal
 
 pub loop-waiting-init : goal.loop-waiting-init
-loop-waiting-init c = (search (stack_long, rules), search rules, search rules, search rules, search (run_start, rules))
+loop-waiting-init c = (search rules, search rules, search rules, search rules, search (run_start, rules))
 
 pub returns-then-at-waiting-gt535 : goal.returns-then-at-waiting-gt535
 returns-then-at-waiting-gt535 c = search (run_many, rules)
 
-pub shape_of-buf-then-act-eq0 : goal.shape_of-buf-then-act-eq0
-shape_of-buf-then-act-eq0 c = omega (arith, c.loop-waiting.invariant.1, c.requires.10)
-
-pub returns-then-act-eq0 : goal.returns-then-act-eq0
-returns-then-act-eq0 c = search (run_stuck, rules)
+pub returns-in_err-task : goal.returns-in_err-task
+returns-in_err-task c =
+    rw c.from_residual.ensures (run_stuck _ _ _ _ _ _ _ c.loop-waiting.invariant.0 c.loop-waiting.invariant.1 c.loop-waiting.invariant.3 c.loop-waiting.invariant.4 _
+    (omega (arith, c.loop-waiting-test.true)) refl _ _ c.look.ensures c.in_err-task.was)
 
 pub overflow_add-waiting : goal.overflow_add-waiting
 overflow_add-waiting c = let h : c.act_of-act.result.grown ≤ 2 = search (act_few_grown, rules) in search rules
@@ -37,9 +36,8 @@ loop-waiting-preserved c =
       omega (arith, c.put_act.auto.out, c.loop-waiting.invariant.1),
       omega (arith, w),
       omega (arith, c.if-at-waiting-gt535.false),
-      run_on _ _ _ _ c.filled-stack.ensures _ _ _ _ c.loop-waiting.invariant.0 c.loop-waiting.invariant.1 c.loop-waiting.invariant.3 c.loop-waiting.invariant.4 _ _ _
-          c.act_of-act.ensures c.look-task.ensures (omega (arith, c.loop-waiting-test.true)) refl _ (λ e. omega arith) (omega (arith, c.if-at-waiting-gt535.false))
-          c.put_act.ensures,
+      run_on _ _ _ _ _ _ _ c.loop-waiting.invariant.0 c.loop-waiting.invariant.1 c.loop-waiting.invariant.3 c.loop-waiting.invariant.4 _
+          (omega (arith, c.loop-waiting-test.true)) refl _ _ _ _ c.look.ensures c.in_ok-task.was c.act_of-act.ensures (omega (arith, c.if-at-waiting-gt535.false)) c.put_act.ensures,
     )
 
 pub returns-then-at-gt535 : goal.returns-then-at-gt535

@@ -1,5 +1,4 @@
-use Rattle.std.proofs.Common.{◌-◌, length}
 use Rattle.draw.proofs.mark.fingerprint.Given as goal
 
-abbrev pub decreases-loop-i : goal.decreases-loop-i
-decreases-loop-i l = length l.bytes - l.i
+abbrev pub decreases-loop-count : goal.decreases-loop-count
+decreases-loop-count l = l.count

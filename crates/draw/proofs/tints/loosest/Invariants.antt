@@ -1,8 +1,5 @@
-use Rattle.std.proofs.Common.{◌-◌, ◌<◌}
+use Rattle.std.proofs.Common.{◌<◌}
 use Rattle.draw.proofs.tints.loosest.Given as goal
 
 abbrev pub invariant-loop-v : goal.invariant-loop-v
 invariant-loop-v l = l.best < 64
-
-abbrev pub decreases-loop-v : goal.decreases-loop-v
-decreases-loop-v l = 64 - l.v

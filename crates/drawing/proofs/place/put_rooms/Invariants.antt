@@ -12,6 +12,3 @@ abbrev pub invariant-loop-i : goal.invariant-loop-i
 invariant-loop-i l =
     (length l.rects ≡ length l.initial.rects)
     × (sets l.rects (4 * (4 + l.i)) (flat (map (walled_by l.xs l.ys) (up_from (4 + l.i) (l.count - l.i)))) ≡ sets l.initial.rects 16 (flat (map (walled_by l.xs l.ys) (up_from 4 l.count))))
-
-abbrev pub decreases-loop-i : goal.decreases-loop-i
-decreases-loop-i l = l.count - l.i

@@ -3,13 +3,10 @@ use Prim.Native.Nat.{◌+◌, ◌-◌}
 use Rattle.floor.specs.Lists.{all, up_from}
 use Rattle.floor.specs.Jobs.{sized_job, rooms}
 use Rattle.floor.specs.Foreign.{room_good}
-use Rattle.stars.specs.Held.{job_in}
-use Rattle.stars.specs.Sized.{sizes_in}
-use Rattle.elsewhere.specs.Placed.{plan_at}
+use Rattle.stars.specs.Held.{job_held}
+use Rattle.stars.specs.Sized.{sizes_lent}
+use Rattle.elsewhere.specs.Placed.{plan_drawn}
 use Rattle.elsewhere.proofs.rooms.rooms_good.Given as goal
 
 abbrev pub invariant-loop-i : goal.invariant-loop-i
-invariant-loop-i l = all (room_good (sized_job (job_in l.count l.ends l.nbr l.kind) (sizes_in l.told l.sizes)) (plan_at l.count l.plan)) (up_from (4 + l.i) (l.many - l.i)) ≡ all (room_good (sized_job (job_in l.count l.ends l.nbr l.kind) (sizes_in l.told l.sizes)) (plan_at l.count l.plan)) (rooms (job_in l.count l.ends l.nbr l.kind))
-
-abbrev pub decreases-loop-i : goal.decreases-loop-i
-decreases-loop-i l = l.many - l.i
+invariant-loop-i l = all (room_good (sized_job (job_held l.stars) (sizes_lent l.sizes)) (plan_drawn l.plan)) (up_from (4 + l.i) (l.stars.count - l.i)) ≡ all (room_good (sized_job (job_held l.stars) (sizes_lent l.sizes)) (plan_drawn l.plan)) (rooms (job_held l.stars))

@@ -5,8 +5,8 @@ use Rattle.elsewhere.proofs.text.list_check.Goals as goal
 pub returns-then-input-gt16384 : goal.returns-then-input-gt16384
 returns-then-input-gt16384 c = prints_long _ _ _ _ (search rules) (search rules) c.put_too_long.ensures
 
-pub returns-in-Refused : goal.returns-in-Refused
-returns-in-Refused c = prints_refused _ _ _ _ (search rules) _ (search rules) c.judge_together-answer.ensures _ c.put_refusal.ensures (search rules) (search rules)
+pub returns-in-Err : goal.returns-in-Err
+returns-in-Err c = prints_refused _ _ _ _ (search rules) _ (search rules) c.judge_together.ensures _ _ c.number.ensures c.put_refusal.ensures (search rules) (search rules)
 
-pub returns-in-Says : goal.returns-in-Says
-returns-in-Says c = prints_says _ _ _ _ (search rules) _ (search rules) c.judge_together-answer.ensures _ c.put_answer.ensures (search rules)
+pub returns-in-Ok : goal.returns-in-Ok
+returns-in-Ok c = prints_says _ _ _ _ (search rules) _ (search rules) c.judge_together.ensures _ c.put_answer.ensures (search rules)

@@ -1,24 +1,7 @@
-use native.Mathlib.Omega.{arith}
 use Rattle.floor.specs.Quoted.{plain}
-use Rattle.job_texts.proofs.Said.{first, second, third, fourth, no_place, frame_at_place, room_by_number}
+use Rattle.job_texts.proofs.Said.{vertex_said}
 use Rattle.job_texts.proofs.values.vertex_of_word.Goals as goal
-
-pub returns-then-same_bytes : goal.returns-then-same_bytes
-unfolding plain
-returns-then-same_bytes c = frame_at_place _ 0 (first _ _ _ _ _ _ c.same_bytes.ensures c.if-same_bytes.true) (omega arith)
-
-pub returns-then-same_bytes-2 : goal.returns-then-same_bytes-2
-unfolding plain
-returns-then-same_bytes-2 c = frame_at_place _ 1 (second _ _ _ _ _ _ c.same_bytes.ensures c.if-same_bytes.false _ c.same_bytes-2.ensures c.if-same_bytes-2.true) (omega arith)
-
-pub returns-then-same_bytes-3 : goal.returns-then-same_bytes-3
-unfolding plain
-returns-then-same_bytes-3 c = frame_at_place _ 2 (third _ _ _ _ _ _ c.same_bytes.ensures c.if-same_bytes.false _ c.same_bytes-2.ensures c.if-same_bytes-2.false _ c.same_bytes-3.ensures c.if-same_bytes-3.true) (omega arith)
-
-pub returns-then-same_bytes-4 : goal.returns-then-same_bytes-4
-unfolding plain
-returns-then-same_bytes-4 c = frame_at_place _ 3 (fourth _ _ _ _ _ _ c.same_bytes.ensures c.if-same_bytes.false _ c.same_bytes-2.ensures c.if-same_bytes-2.false _ c.same_bytes-3.ensures c.if-same_bytes-3.false _ c.same_bytes-4.ensures c.if-same_bytes-4.true) (omega arith)
 
 pub returns : goal.returns
 unfolding plain
-returns c = room_by_number _ 4 (no_place _ _ _ _ _ _ c.same_bytes.ensures c.if-same_bytes.false _ c.same_bytes-2.ensures c.if-same_bytes-2.false _ c.same_bytes-3.ensures c.if-same_bytes-3.false _ c.same_bytes-4.ensures c.if-same_bytes-4.false) _ (omega arith) c.number_of.ensures
+returns c = vertex_said _ _ _ _ c.place_of.ensures c.number_of.ensures c.or.ensures

@@ -7,7 +7,4 @@ use Rattle.job_texts.proofs.Put.{Left}
 use Rattle.job_texts.proofs.write.put_more.Given as goal
 
 abbrev pub invariant-loop-k : goal.invariant-loop-k
-invariant-loop-k l = (length l.out ≡ length l.initial.out) × Left l.initial.out l.at (more_text (cells (l.end - l.from) l.from l.nbr l.kind)) l.out l.next (more_text (cells (l.end - l.k) l.k l.nbr l.kind))
-
-abbrev pub decreases-loop-k : goal.decreases-loop-k
-decreases-loop-k l = l.end - l.k
+invariant-loop-k l = (length l.out ≡ length l.initial.out) × Left l.initial.out l.at (more_text (cells (l.end - l.from) l.from l.stars.nbr.now l.stars.kind.now)) l.out l.next (more_text (cells (l.end - l.k) l.k l.stars.nbr.now l.stars.kind.now))

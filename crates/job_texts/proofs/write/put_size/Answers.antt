@@ -4,5 +4,5 @@ use Rattle.job_texts.proofs.write.put_size.Goals as goal
 
 pub returns : goal.returns
 unfolding plain
-returns c = size_put _ _ _ _ c.wide.ensures.0 c.wide-2.ensures.0 c.put_word-first.ensures c.put_decimal-second.ensures
+returns c = size_put _ _ _ _ c.from.ensures c.from-2.ensures c.put_word-first.ensures c.put_decimal-second.ensures
     c.put_word-third.ensures c.put_decimal.ensures

@@ -4,13 +4,13 @@ use Rattle.jobs.proofs.fill.hold.Goals as goal
 
 pub loop-i-init : goal.loop-i-init
 loop-i-init c =
-    hold_first c.args.job.now _ _ c.args.from _ c.none_held-none.ensures c.wide-count.ensures.0 c.requires.1
+    hold_first c.args.job.now _ _ c.args.from _ c.none_held-held.ensures c.from-count.ensures c.requires.1
 
 pub put_star-requires : goal.put_star-requires
 put_star-requires c = (search (room_in, rules), search (room_in, rules))
 
-pub overflow_cast-ends : goal.overflow_cast-ends
-overflow_cast-ends c = search (room_word, rules)
+pub overflow_cast-held : goal.overflow_cast-held
+overflow_cast-held c = search (room_word, rules)
 
 pub loop-i-preserved : goal.loop-i-preserved
 loop-i-preserved c = (

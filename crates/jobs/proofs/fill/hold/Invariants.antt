@@ -9,9 +9,6 @@ use Rattle.jobs.proofs.fill.hold.Given as goal
 
 abbrev pub invariant-loop-i : goal.invariant-loop-i
 invariant-loop-i l =
-    (l.i ≤ l.count) × (length l.ends ≡ 60) × (length l.nbr ≡ 360) × (length l.kind ≡ 360)
+    (l.i ≤ l.count) × (length l.held.ends ≡ 60) × (length l.held.nbr ≡ 360) × (length l.held.kind ≡ 360)
     × (l.m + pairs_in (stars_at (l.count - l.i) (drop l.at l.job)) ≤ 360)
-    × (put_all (laid l.i l.ends l.nbr l.kind) l.m (stars_at (l.count - l.i) (drop l.at l.job)) ≡ held_of (stars_at l.n (drop l.from l.job)))
-
-abbrev pub decreases-loop-i : goal.decreases-loop-i
-decreases-loop-i l = l.count - l.i
+    × (put_all (laid l.i l.held.ends l.held.nbr l.held.kind) l.m (stars_at (l.count - l.i) (drop l.at l.job)) ≡ held_of (stars_at l.n (drop l.from l.job)))

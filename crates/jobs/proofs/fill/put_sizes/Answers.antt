@@ -1,15 +1,8 @@
-use mathlib.Core.Path.{refl}
 use lib.ListN.{length-set}
 use native.Mathlib.Omega.{arith}
 use Rattle.jobs.proofs.Filling.{sizes_more, sizes_done}
 use borrow.Author.Rules.{rules}
 use Rattle.jobs.proofs.fill.put_sizes.Goals as goal
-
-pub loop-i-init : goal.loop-i-init
-loop-i-init c = (search rules, refl, refl)
-
-pub bounds-list-i-in-loop-i : goal.bounds-list-i-in-loop-i
-bounds-list-i-in-loop-i c = simp length-set (omega arith)
 
 pub loop-i-preserved : goal.loop-i-preserved
 loop-i-preserved c = (search rules, simp length-set (omega arith), search (sizes_more, rules))

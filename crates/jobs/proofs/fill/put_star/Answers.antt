@@ -1,12 +1,7 @@
-use mathlib.Core.Path.{refl}
-use native.Mathlib.Nat.{add-zero}
 use Rattle.stars.specs.Held.{to_of, kind_of}
 use Rattle.jobs.proofs.Filling.{fill_more, fill_done}
 use borrow.Author.Rules.{rules}
 use Rattle.jobs.proofs.fill.put_star.Goals as goal
-
-pub loop-i-init : goal.loop-i-init
-loop-i-init c = (search rules, refl, refl, rw add-zero, rw add-zero)
 
 pub loop-i-preserved : goal.loop-i-preserved
 loop-i-preserved c = (search rules, search rules, search rules, search (fill_more to_of, rules), search (fill_more kind_of, rules))

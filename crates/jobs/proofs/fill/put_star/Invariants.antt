@@ -1,4 +1,4 @@
-use Prim.Native.Nat.{◌+◌, ◌-◌, ◌*◌, ◌≤◌}
+use Prim.Native.Nat.{◌+◌, ◌*◌, ◌≤◌}
 use mathlib.Core.Path.{◌≡◌}
 use mathlib.Core.List.{map}
 use lib.ListN.{length, drop}
@@ -12,6 +12,3 @@ invariant-loop-i l =
     (l.i ≤ l.k) × (length l.nbr ≡ length l.initial.nbr) × (length l.kind ≡ length l.initial.kind)
     × (sets l.nbr (l.m + l.i) (map to_of (entries (drop (2 * l.i) l.star))) ≡ sets l.initial.nbr l.m (map to_of (entries l.star)))
     × (sets l.kind (l.m + l.i) (map kind_of (entries (drop (2 * l.i) l.star))) ≡ sets l.initial.kind l.m (map kind_of (entries l.star)))
-
-abbrev pub decreases-loop-i : goal.decreases-loop-i
-decreases-loop-i l = l.k - l.i

@@ -10,6 +10,3 @@ abbrev pub invariant-loop-i : goal.invariant-loop-i
 invariant-loop-i l =
     (l.pairs ≤ l.at) × (pairs_past l.pairs (read_stars (l.count - l.i) (drop l.at l.job)) ≡ pairs_past 0 (read_stars l.n (drop l.from l.job)))
     × (after_fields (l.count - l.i) (drop l.at l.job) ≡ after_fields l.n (drop l.from l.job))
-
-abbrev pub decreases-loop-i : goal.decreases-loop-i
-decreases-loop-i l = l.count - l.i

@@ -9,14 +9,14 @@ returns-then-job-place c = search (follow_none, rules)
 pub returns-in_default : goal.returns-in_default
 returns-in_default c = search (follow_broken, rules)
 
-pub returns-then-tag-ne7 : goal.returns-then-tag-ne7
-returns-then-tag-ne7 c = search (follow_tag, rules)
+pub returns-then-field-ne7 : goal.returns-then-field-ne7
+returns-then-field-ne7 c = search (follow_tag, rules)
 
-pub overflow_sub-end : goal.overflow_sub-end
-overflow_sub-end c = search (in_order_lem, rules)
+pub overflow_sub-field : goal.overflow_sub-field
+overflow_sub-field c = search (in_order_lem, rules)
 
-pub returns-then-end-start : goal.returns-then-end-start
-returns-then-end-start c = search (follow_length, rules)
+pub returns-then-field-from : goal.returns-then-field-from
+returns-then-field-from c = search (follow_length, rules)
 
 pub returns : goal.returns
 returns c = search (follow_end, rules)

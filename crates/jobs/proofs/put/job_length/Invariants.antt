@@ -7,8 +7,5 @@ use Rattle.stars.specs.Held.{stars_in, job_in}
 use Rattle.jobs.proofs.put.job_length.Given as goal
 
 abbrev pub invariant-loop-i : goal.invariant-loop-i
-invariant-loop-i l = (l.i ≤ l.count) × (l.total ≤ 4 + 723 * l.i)
-    × ((kind : List ℕ) → l.total + length (write_stars (stars_in (l.count - l.i) l.i l.ends l.nbr kind)) ≡ length (write_job (job_in l.count l.ends l.nbr kind)))
-
-abbrev pub decreases-loop-i : goal.decreases-loop-i
-decreases-loop-i l = l.count - l.i
+invariant-loop-i l = (l.i ≤ l.stars.count) × (l.total ≤ 4 + 723 * l.i)
+    × ((kind : List ℕ) → l.total + length (write_stars (stars_in (l.stars.count - l.i) l.i l.stars.ends.now l.stars.nbr.now kind)) ≡ length (write_job (job_in l.stars.count l.stars.ends.now l.stars.nbr.now kind)))

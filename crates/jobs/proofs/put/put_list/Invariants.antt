@@ -8,8 +8,5 @@ use Rattle.jobs.proofs.put.put_list.Given as goal
 
 abbrev pub invariant-loop-i : goal.invariant-loop-i
 invariant-loop-i l =
-    (l.i ≤ l.many) × (length l.out ≡ length l.initial.out)
-    × (sets l.out (l.at + 2 * l.i) (size_bytes (sizes_from (l.many - l.i) l.i l.sizes)) ≡ sets l.initial.out l.at (size_bytes (sizes_in l.many l.sizes)))
-
-abbrev pub decreases-loop-i : goal.decreases-loop-i
-decreases-loop-i l = l.many - l.i
+    (l.i ≤ l.sizes.told) × (length l.out ≡ length l.initial.out)
+    × (sets l.out (l.at + 2 * l.i) (size_bytes (sizes_from (l.sizes.told - l.i) l.i l.sizes.list.now)) ≡ sets l.initial.out l.at (size_bytes (sizes_in l.sizes.told l.sizes.list.now)))

@@ -9,7 +9,4 @@ use Rattle.jobs.proofs.put.put_pairs.Given as goal
 abbrev pub invariant-loop-i : goal.invariant-loop-i
 invariant-loop-i l =
     (l.i ≤ l.m) × (length l.out ≡ length l.initial.out)
-    × (sets l.out (l.at + 2 * l.i) (star_bytes (cells (l.m - l.i) (l.from + l.i) l.nbr l.kind)) ≡ sets l.initial.out l.at (star_bytes (cells l.m l.from l.nbr l.kind)))
-
-abbrev pub decreases-loop-i : goal.decreases-loop-i
-decreases-loop-i l = l.m - l.i
+    × (sets l.out (l.at + 2 * l.i) (star_bytes (cells (l.m - l.i) (l.from + l.i) l.stars.nbr.now l.stars.kind.now)) ≡ sets l.initial.out l.at (star_bytes (cells l.m l.from l.stars.nbr.now l.stars.kind.now)))

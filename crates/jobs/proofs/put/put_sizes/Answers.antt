@@ -2,8 +2,8 @@ use Rattle.jobs.proofs.Writing.{none_put, some_room, some_put}
 use borrow.Author.Rules.{rules}
 use Rattle.jobs.proofs.put.put_sizes.Goals as goal
 
-pub returns-then-told-eq0 : goal.returns-then-told-eq0
-returns-then-told-eq0 c = search (none_put, rules)
+pub returns-then-sizes-eq0 : goal.returns-then-sizes-eq0
+returns-then-sizes-eq0 c = search (none_put, rules)
 
 pub put_list-requires : goal.put_list-requires
 put_list-requires c = search (some_room, rules)

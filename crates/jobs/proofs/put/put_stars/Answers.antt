@@ -1,9 +1,6 @@
-use Rattle.jobs.proofs.Writing.{put_first, room_field, room_later, stars_more, stars_done}
+use Rattle.jobs.proofs.Writing.{room_field, room_later, stars_more, stars_done}
 use borrow.Author.Rules.{rules}
 use Rattle.jobs.proofs.put.put_stars.Goals as goal
-
-pub loop-i-init : goal.loop-i-init
-loop-i-init c = search (put_first, rules)
 
 pub put_field-at-requires : goal.put_field-at-requires
 put_field-at-requires c = (search rules, search (room_field, rules))

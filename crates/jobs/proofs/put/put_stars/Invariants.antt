@@ -7,8 +7,5 @@ use Rattle.stars.specs.Held.{stars_in, job_in}
 use Rattle.jobs.proofs.put.put_stars.Given as goal
 
 abbrev pub invariant-loop-i : goal.invariant-loop-i
-invariant-loop-i l = (length l.out ≡ length l.initial.out) × (l.at + length (write_stars (stars_in (l.count - l.i) l.i l.ends l.nbr l.kind)) ≤ length l.initial.out)
-    × (sets l.out l.at (write_stars (stars_in (l.count - l.i) l.i l.ends l.nbr l.kind)) ≡ sets l.initial.out l.from (write_stars (job_in l.count l.ends l.nbr l.kind)))
-
-abbrev pub decreases-loop-i : goal.decreases-loop-i
-decreases-loop-i l = l.count - l.i
+invariant-loop-i l = (length l.out ≡ length l.initial.out) × (l.at + length (write_stars (stars_in (l.stars.count - l.i) l.i l.stars.ends.now l.stars.nbr.now l.stars.kind.now)) ≤ length l.initial.out)
+    × (sets l.out l.at (write_stars (stars_in (l.stars.count - l.i) l.i l.stars.ends.now l.stars.nbr.now l.stars.kind.now)) ≡ sets l.initial.out l.from (write_stars (job_in l.stars.count l.stars.ends.now l.stars.nbr.now l.stars.kind.now)))

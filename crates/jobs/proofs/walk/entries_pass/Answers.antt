@@ -1,10 +1,6 @@
-use native.Mathlib.Nat.{sub-zero}
 use Rattle.jobs.proofs.Walks.{entries_false, entries_next, entries_done}
 use borrow.Author.Rules.{rules}
 use Rattle.jobs.proofs.walk.entries_pass.Goals as goal
-
-pub loop-i-init : goal.loop-i-init
-loop-i-init c = rw (sub-zero, c.wide-count.ensures.0)
 
 pub returns-then-not-entries_ok : goal.returns-then-not-entries_ok
 returns-then-not-entries_ok c = search (entries_false, rules)

@@ -8,6 +8,3 @@ use Rattle.jobs.proofs.walk.entries_pass.Given as goal
 abbrev pub invariant-loop-i : goal.invariant-loop-i
 invariant-loop-i l =
     all_from (entries_ok l.n) (4 + l.i) (stars_at (l.count - l.i) (drop l.at l.job)) ≡ all_from (entries_ok l.n) 4 (stars_at l.n (drop l.from l.job))
-
-abbrev pub decreases-loop-i : goal.decreases-loop-i
-decreases-loop-i l = l.count - l.i

@@ -1,10 +1,6 @@
-use native.Mathlib.Nat.{sub-zero}
 use Rattle.jobs.proofs.Walks.{place_next, place_here}
 use borrow.Author.Rules.{rules}
 use Rattle.jobs.proofs.walk.place_after.Goals as goal
-
-pub loop-i-init : goal.loop-i-init
-loop-i-init c = rw sub-zero
 
 pub loop-i-preserved : goal.loop-i-preserved
 loop-i-preserved c = search (place_next, rules)

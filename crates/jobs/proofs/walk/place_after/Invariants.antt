@@ -6,6 +6,3 @@ use Rattle.jobs.proofs.walk.place_after.Given as goal
 
 abbrev pub invariant-loop-i : goal.invariant-loop-i
 invariant-loop-i l = after_fields (l.k - l.i) (drop l.at l.job) ≡ after_fields l.k l.job
-
-abbrev pub decreases-loop-i : goal.decreases-loop-i
-decreases-loop-i l = l.k - l.i

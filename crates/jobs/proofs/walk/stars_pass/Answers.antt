@@ -1,10 +1,6 @@
-use native.Mathlib.Nat.{sub-zero}
 use Rattle.jobs.proofs.Walks.{stars_false, stars_next, stars_done}
 use borrow.Author.Rules.{rules}
 use Rattle.jobs.proofs.walk.stars_pass.Goals as goal
-
-pub loop-i-init : goal.loop-i-init
-loop-i-init c = rw (sub-zero, c.wide-count.ensures.0)
 
 pub returns-then-not-star_ok : goal.returns-then-not-star_ok
 returns-then-not-star_ok c = search (stars_false, rules)

@@ -8,6 +8,3 @@ use Rattle.jobs.proofs.walk.stars_pass.Given as goal
 
 abbrev pub invariant-loop-i : goal.invariant-loop-i
 invariant-loop-i l = all star_ok (stars_at (l.count - l.i) (drop l.at l.job)) ≡ all star_ok (stars_at l.n (drop l.from l.job))
-
-abbrev pub decreases-loop-i : goal.decreases-loop-i
-decreases-loop-i l = l.count - l.i

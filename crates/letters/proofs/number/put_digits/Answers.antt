@@ -1,17 +1,12 @@
-use native.Mathlib.Omega.{arith}
-use lib.ListN.{length-set}
+use Rattle.std.proofs.Common.{rules}
 use Rattle.letters.proofs.Numbers.{digits_first, digit_more, digit_last, room_left, tenth_fits}
-use borrow.Author.Rules.{rules}
 use Rattle.letters.proofs.number.put_digits.Goals as goal
 
-pub loop-rest-init : goal.loop-rest-init
-loop-rest-init c = (search rules, search rules, search rules, search rules, search (digits_first, rules))
+pub loop-start-init : goal.loop-start-init
+loop-start-init c = (search rules, search rules, search (digits_first, rules))
 
-pub loop-rest-preserved : goal.loop-rest-preserved
-loop-rest-preserved c = (simp length-set (search rules), search (room_left, rules), search rules, search (tenth_fits, rules), search (digit_more, rules))
+pub returns-then-rest-eq0 : goal.returns-then-rest-eq0
+returns-then-rest-eq0 c = (search (digit_last, rules), search rules)
 
-pub shape_of-page : goal.shape_of-page
-shape_of-page c = simp length-set (omega arith)
-
-pub returns : goal.returns
-returns c = (search (digit_last, rules), search rules)
+pub loop-start-preserved : goal.loop-start-preserved
+loop-start-preserved c = (search (room_left, rules), search (tenth_fits, rules), search (digit_more, rules))

@@ -1,9 +1,5 @@
-use Rattle.narrowing.proofs.Trying.{stops_not, swings_does}
-use borrow.Author.Rules.{rules}
+use Rattle.narrowing.proofs.Trying.{turns_ok}
 use Rattle.narrowing.proofs.tries.turned.Goals as goal
 
-pub returns-in-Stops : goal.returns-in-Stops
-returns-in-Stops c = (search (stops_not, rules), search rules)
-
-pub returns-in-Swings : goal.returns-in-Swings
-returns-in-Swings c = (search (swings_does, rules), search rules)
+pub returns : goal.returns
+returns c = (turns_ok _ _ _ c.turn_held.ensures.0 c.is_ok.ensures.value, c.turn_held.ensures.1)

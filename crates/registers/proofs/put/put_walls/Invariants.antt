@@ -11,6 +11,3 @@ abbrev pub invariant-loop-i : goal.invariant-loop-i
 invariant-loop-i l =
     (length l.out ≡ length l.initial.out)
     × (sets l.out (8 * l.i) (in_bytes (write_register (walls_in l.uprights (l.many - l.i) l.i l.rows))) ≡ sets l.initial.out 0 (in_bytes (write_register (walls_in l.uprights l.many 0 l.rows))))
-
-abbrev pub decreases-loop-i : goal.decreases-loop-i
-decreases-loop-i l = l.many - l.i

@@ -1,12 +1,11 @@
-use Prim.Native.Nat.{◌-◌, ◌≤◌}
 use mathlib.Core.Path.{◌≡◌}
-use lib.ListN.{length, drop}
+use lib.ListN.{length}
 use Rattle.floor.specs.Lists.{all}
 use Rattle.floor.specs.Jobs.{entries, entry_ok}
 use Rattle.stars.proofs.star.entries_ok.Given as goal
 
-abbrev pub invariant-loop-i : goal.invariant-loop-i
-invariant-loop-i l = (l.i ≤ length l.star) × (all (entry_ok l.rooms l.room) (entries (drop l.i l.star)) ≡ all (entry_ok l.rooms l.room) (entries l.star))
+abbrev pub invariant-entries : goal.invariant-entries
+invariant-entries l = all (entry_ok l.rooms l.room) (entries l.rest) ≡ all (entry_ok l.rooms l.room) (entries l.star)
 
-abbrev pub decreases-loop-i : goal.decreases-loop-i
-decreases-loop-i l = length l.star - l.i
+abbrev pub decreases-entries : goal.decreases-entries
+decreases-entries l = length l.rest

@@ -1,4 +1,4 @@
-use Rattle.texts.proofs.Fitting.{door_none, none_short, door_put, door_short}
+use Rattle.texts.proofs.Fitting.{door_none, none_short, door_put}
 use borrow.Author.Rules.{rules}
 use Rattle.texts.proofs.doors.put_door.Goals as goal
 
@@ -6,4 +6,4 @@ pub returns-in_default : goal.returns-in_default
 returns-in_default c = (search (door_none, rules), search (none_short, rules))
 
 pub returns : goal.returns
-returns c = (search (door_put, rules), search (door_short, rules))
+returns c = door_put _ _ _ c.touch-touch.ensures _ _ _ _ c.in-Wall.is c.start_on-start.ensures c.stop_on-stop.ensures c.requires _ _ _ _ c.put_six.ensures

@@ -11,8 +11,8 @@ pub loop-u-preserved : goal.loop-u-preserved
 loop-u-preserved c = (
   search rules,
   search rules,
-  among_more _ _ _ _ _ _ _ c.wide-many.ensures.0 _ _ _ _ _ c.loop-u.invariant.2 c.loop-u-test.true c.put_doors_to-next.ensures,
+  among_more _ _ _ _ _ _ _ c.many-many.ensures.0 _ _ _ _ _ c.loop-u.invariant.2 c.loop-u-test.true c.put_doors_to-next.ensures,
 )
 
 pub returns : goal.returns
-returns c = among_done _ _ _ _ _ _ _ c.wide-many.ensures.0 _ _ _ c.loop-u.invariant.2 c.loop-u-test.false
+returns c = among_done _ _ _ _ _ _ _ c.many-many.ensures.0 _ _ _ c.loop-u.invariant.2 c.loop-u-test.false

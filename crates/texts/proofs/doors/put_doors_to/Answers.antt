@@ -14,7 +14,7 @@ pub loop-v-preserved : goal.loop-v-preserved
 loop-v-preserved c = (
   search rules,
   search rules,
-  to_more _ _ _ _ _ _ _ c.wide-many.ensures.0 _ _ _ _ _ _ _ _
+  to_more _ _ _ _ _ _ _ c.many-many.ensures.0 _ _ _ _ _ _ _ _
       c.loop-v.invariant.2
       c.loop-v-test.true
       c.rectangle-r.ensures
@@ -23,4 +23,4 @@ loop-v-preserved c = (
 )
 
 pub returns : goal.returns
-returns c = to_done _ _ _ _ _ _ _ c.wide-many.ensures.0 _ _ _ _ c.loop-v.invariant.2 c.loop-v-test.false
+returns c = to_done _ _ _ _ _ _ _ c.many-many.ensures.0 _ _ _ _ c.loop-v.invariant.2 c.loop-v-test.false

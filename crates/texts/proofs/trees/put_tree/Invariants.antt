@@ -1,12 +1,11 @@
-use Prim.Native.Nat.{◌-◌}
 use mathlib.Core.Path.{◌≡◌}
-use lib.ListN.{length, drop}
+use lib.ListN.{length}
 use Rattle.floor.specs.Cuts.{Tree, write_tree}
 use Rattle.texts.proofs.Cutting.{Walked}
 use Rattle.texts.proofs.trees.put_tree.Given as goal
 
-abbrev pub invariant-loop-i : goal.invariant-loop-i
-invariant-loop-i l = (length l.out ≡ length l.initial.out) × ((t : Tree) → l.bytes ≡ write_tree t → Walked t (drop l.i l.bytes) l.initial.out l.at l.out l.next)
+abbrev pub invariant-fields : goal.invariant-fields
+invariant-fields l = (length l.out ≡ length l.initial.out) × ((t : Tree) → l.bytes ≡ write_tree t → Walked t l.rest l.initial.out l.at l.out l.next)
 
-abbrev pub decreases-loop-i : goal.decreases-loop-i
-decreases-loop-i l = length l.bytes - l.i
+abbrev pub decreases-fields : goal.decreases-fields
+decreases-fields l = length l.rest

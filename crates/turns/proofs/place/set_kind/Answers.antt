@@ -1,9 +1,6 @@
-use Rattle.turns.proofs.Placing.{set_none, set_here}
+use lib.Seq.{set_out}
 use borrow.Author.Rules.{rules}
 use Rattle.turns.proofs.place.set_kind.Goals as goal
 
-pub returns-then-kind-place : goal.returns-then-kind-place
-returns-then-kind-place c = search (set_none, rules)
-
-pub returns : goal.returns
-returns c = search (set_here, rules)
+pub returns-else-place-kind : goal.returns-else-place-kind
+returns-else-place-kind c = search (set_out, rules)

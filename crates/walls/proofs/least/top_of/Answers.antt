@@ -1,12 +1,9 @@
-use Rattle.walls.proofs.Sizing.{top_start, top_next, top_done, top_untold}
+use Rattle.walls.proofs.Sizing.{top_start, top_next, top_done}
 use borrow.Author.Rules.{rules}
 use Rattle.walls.proofs.least.top_of.Goals as goal
 
 pub loop-i-init : goal.loop-i-init
 loop-i-init c = (search (top_start, rules), search rules)
-
-pub returns-then-told-i : goal.returns-then-told-i
-returns-then-told-i c = search (top_untold, rules)
 
 pub loop-i-preserved : goal.loop-i-preserved
 loop-i-preserved c = (search (top_next, rules), search rules)

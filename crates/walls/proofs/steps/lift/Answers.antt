@@ -7,12 +7,12 @@ use native.Mathlib.Omega.{arith}
 use Rattle.walls.proofs.Grow.{at_get_d}
 use Rattle.walls.proofs.steps.lift.Goals as goal
 
-pub returns-then-v-number : goal.returns-then-v-number
-returns-then-v-number c =
+pub returns-then-v-from : goal.returns-then-v-from
+returns-then-v-from c =
     (refl, omega (arith, at_get_d c.args.f.now c.args.a c.requires.0, at_get_d c.args.f.now c.args.b c.requires.1))
 
-pub returns-then-number-v : goal.returns-then-number-v
-returns-then-number-v c =
+pub returns-then-from-v : goal.returns-then-from-v
+returns-then-from-v c =
     (refl, omega (arith, at_get_d c.args.f.now c.args.a c.requires.0))
 
 pub returns : goal.returns

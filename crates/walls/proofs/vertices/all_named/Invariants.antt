@@ -6,7 +6,4 @@ use Rattle.walls.proofs.vertices.all_named.Given as goal
 
 abbrev pub invariant-loop-i : goal.invariant-loop-i
 invariant-loop-i l =
-    named l.sides (stars_in (l.count - l.i) l.i l.ends l.nbr l.kind) ≡ named l.sides (job_in l.count l.ends l.nbr l.kind)
-
-abbrev pub decreases-loop-i : goal.decreases-loop-i
-decreases-loop-i l = l.count - l.i
+    named l.sides (stars_in (l.stars.count - l.i) l.i l.stars.ends.now l.stars.nbr.now l.stars.kind.now) ≡ named l.sides (job_in l.stars.count l.stars.ends.now l.stars.nbr.now l.stars.kind.now)

@@ -6,7 +6,4 @@ use Rattle.walls.proofs.vertices.part_named.Given as goal
 
 abbrev pub invariant-loop-k : goal.invariant-loop-k
 invariant-loop-k l =
-    star_named l.sides (cells (l.end - l.k) l.k l.nbr l.kind) ≡ star_named l.sides (cells (l.end - l.from) l.from l.nbr l.kind)
-
-abbrev pub decreases-loop-k : goal.decreases-loop-k
-decreases-loop-k l = l.end - l.k
+    star_named l.sides (cells (l.end - l.k) l.k l.stars.nbr.now l.stars.kind.now) ≡ star_named l.sides (cells (l.end - l.from) l.from l.stars.nbr.now l.stars.kind.now)

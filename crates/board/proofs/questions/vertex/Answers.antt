@@ -1,4 +1,0 @@
-use Rattle.board.proofs.questions.vertex.Goals as goal
-
-pub returns : goal.returns
-returns c = rw c.wide.ensures.0

@@ -1,5 +1,0 @@
-use Rattle.std.proofs.Common.{◌-◌}
-use Rattle.wall_cases.proofs.join.Given as goal
-
-abbrev pub decreases-loop-side : goal.decreases-loop-side
-decreases-loop-side l = 128 - l.side
