@@ -46,14 +46,21 @@ fn numberings(job: &[u8], rounds: u64) -> u64 {
     )
 }
 
+// The length of wall that two vertices share; 0 for none.
+fn shared(touch: Touch) -> u64 {
+    let Touch::Wall(_, length) = touch else {
+        return 0;
+    };
+    u64::from(length)
+}
+
 // 1 for what is done, a thousand times the number of a refusal, where a rectangle ends, the length of wall that is shared, 0 for none, the turns made.
 fn mark(step: &Step) -> u64 {
     match step.reply {
         Ok(Reply::Done) => 1,
         Err(why) => 1000 * u64::from(why.number()),
         Ok(Reply::Spans(rect)) => u64::from(rect.x2),
-        Ok(Reply::Touched(Touch::Wall(_, length))) => u64::from(length),
-        Ok(Reply::Touched(Touch::Clear)) => 0,
+        Ok(Reply::Touched(touch)) => shared(touch),
         Ok(Reply::Says(yes)) => u64::from(yes),
         Ok(Reply::Wrote(_)) => 0,
         Ok(Reply::Made(turns)) => turns as u64,

@@ -24,7 +24,7 @@ use Rattle.fields.specs.Writes.{replied, writing}
 use Rattle.stars.specs.declared.Stars.{Stars}
 use Rattle.stars.specs.declared.Sizes.{Sizes as HeldSizes}
 use Rattle.stars.specs.Held.{job_in, job_of, no_stars, held_of}
-use Rattle.stars.specs.Sized.{sizes_in, sizes_of, no_sizes, held_sizes}
+use Rattle.stars.specs.Sized.{sizes_of, no_sizes, held_sizes}
 use Rattle.stars.proofs.Holding.{length_stars, job_stars}
 use Rattle.jobs.specs.declared.Job.{Job as ReadJob}
 use Rattle.jobs.specs.Reads.{kept as read_kept, kept_sizes as read_kept_sizes, outcome as read_outcome, Keeps, Tells as ReadTells}
@@ -38,7 +38,7 @@ use Rattle.drawing.proofs.Corollaries.{drawn_any_lem, plan_held, rect_held}
 use Rattle.registers.specs.declared.Register.{Register}
 use Rattle.registers.specs.Sorting.{kept_walls}
 use Rattle.registers.specs.Kept.{no_register, kept_register, walls_in, register_in}
-use Rattle.registers.proofs.Corollaries.{counted_held, walls_held}
+use Rattle.registers.proofs.Corollaries.{walls_held}
 use Rattle.cuts.specs.Runs.{tree_bytes, cut_tree, writing as writing_cuts}
 use Rattle.turns.specs.declared.Swing.{Swing}
 use Rattle.turns.specs.InPlace.{swings, swing_of, two_set, swung_in, turned_in, two_put, swing_said}

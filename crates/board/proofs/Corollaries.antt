@@ -2,8 +2,7 @@
 use Prim.Native.Nat.{ℕ, ◌≤◌}
 use mathlib.Core.Path.{◌≡◌, refl, sym, ap, ◌∙◌}
 use mathlib.Core.List.{List}
-use Rattle.floor.specs.Jobs.{SizedJob}
-use Rattle.floor.specs.Plans.{Plan, Answer, held, clear, wall}
+use Rattle.floor.specs.Plans.{Answer, held, clear, wall}
 use Rattle.floor.proofs.Plans.Held.{not_held, one_number}
 use Rattle.floor.specs.Registers.{register}
 use Rattle.floor.specs.Calls.{load, Reply, refusal, done, spans, touch, says, wrote, made}
@@ -12,7 +11,6 @@ use Rattle.drawing.specs.Rects.{rect_in, touch_in, plan_in}
 use Rattle.drawing.specs.declared.Touch.TheVariants.{Clear, Wall}
 use Rattle.std.specs.Prelude.{Result, Ok, Err}
 use Rattle.refusals.specs.declared.Refusal.{Refusal}
-use Rattle.refusals.specs.Numbers.{number_of}
 use Rattle.refusals.proofs.Same.{refusal_of, back, same_refusal}
 use Rattle.registers.specs.Kept.{register_in}
 use Rattle.registers.proofs.Corollaries.{few_kept}

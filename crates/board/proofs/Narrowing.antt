@@ -14,10 +14,10 @@ use Rattle.floor.specs.Calls.{narrows}
 use Rattle.stars.specs.declared.Stars.{Stars}
 use Rattle.stars.specs.declared.Sizes.{Sizes as HeldSizes}
 use Rattle.stars.specs.Held.{job_of}
-use Rattle.stars.specs.Sized.{sizes_in, sizes_of}
+use Rattle.stars.specs.Sized.{sizes_of}
 use Rattle.std.specs.Prelude.{Option, Some, None, Ok}
 use Rattle.drawing.specs.declared.Plan.{Plan as HeldPlan}
-use Rattle.drawing.specs.Rects.{plan_in, plan_from, held_plan}
+use Rattle.drawing.specs.Rects.{plan_in, held_plan}
 use Rattle.drawing.specs.Drawn.{kept}
 use Rattle.registers.specs.declared.Register.{Register}
 use Rattle.registers.specs.Sorting.{kept_walls}

@@ -139,7 +139,7 @@ impl Board {
                 board,
                 reply: Ok(Reply::Done),
             },
-            Err(k) => stays(self, k),
+            Err(why) => stays(self, why),
         }
     }
 

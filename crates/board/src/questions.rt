@@ -37,5 +37,8 @@ pub fn two_touch(plan: &Layout, u: usize, v: usize) -> Touch
 pub fn wrote(written: Result<usize, Refusal>) -> Result<Reply, Refusal>
     ensures { reply_of result ≡ replied written }
 {
-    Ok(Reply::Wrote(written?))
+    match written {
+        Ok(length) => Ok(Reply::Wrote(length)),
+        Err(why) => Err(why),
+    }
 }

@@ -6,6 +6,19 @@ use drawing::{Rect, Touch};
 use refusals::Refusal;
 use std::{fmt, io};
 
+// How two vertices touch: the side and the length, or none.
+#[derive(Clone, Copy)]
+struct Touched(Touch);
+
+impl fmt::Display for Touched {
+    fn fmt<W: fmt::Write>(&self, f: &mut fmt::Formatter<W>) -> fmt::Result {
+        let Touch::Wall(side, length) = self.0 else {
+            return write!(f, "none");
+        };
+        write!(f, "touch {side} {length}")
+    }
+}
+
 // What a call answered, as text.
 #[derive(Clone, Copy)]
 struct Told(Result<Reply, Refusal>);
@@ -26,8 +39,7 @@ impl fmt::Display for Told {
                     },
                 ),
             ) => write!(f, "{vertex} {x1} {y1} {x2} {y2}"),
-            Ok(Reply::Touched(Touch::Wall(side, length))) => write!(f, "touch {side} {length}"),
-            Ok(Reply::Touched(Touch::Clear)) => write!(f, "none"),
+            Ok(Reply::Touched(touch)) => write!(f, "{}", Touched(touch)),
             Ok(Reply::Says(yes)) => write!(f, "{}", if yes { "yes" } else { "no" }),
             Ok(Reply::Wrote(length)) => write!(f, "bytes {length}"),
             Ok(Reply::Made(turns)) => write!(f, "turns {turns}"),

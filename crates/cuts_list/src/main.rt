@@ -2,12 +2,19 @@
 // then the other; the room at a leaf; or the number of the refusal, or that the input is too long.
 #![tactic(auto)]
 
+use std::io;
+
+// The cuts of a job, written out.
+fn answer(rt: &impl Print, input: &[u8]) -> io::Result<()> {
+    let mut out = letters::page();
+    let length = texts::list_cuts(input, &mut out);
+    rt.write_all(&out[..length])
+}
+
 fn main(rt: HostRuntime) {
-    streams::reply(&rt, &mut rt.stdin(), &mut [0; 8193], |input| {
-        streams::print_page(
-            &rt,
-            &mut letters::page(),
-            |out| texts::list_cuts(input, out),
-        )
-    });
+    let mut input = [0u8; 8193];
+    match streams::read_full(&mut rt.stdin(), &mut input) {
+        Ok(n) => streams::unwritten(&rt, answer(&rt, &input[..n])),
+        Err(why) => streams::unread(&rt, why),
+    }
 }

@@ -3,20 +3,17 @@
 
 use std::io;
 
-// The contacts of a job, printed: a function of its own, since the check finds no proof where this page stands in a closure of `main`.
+// The contacts of a job, written out.
 fn answer(rt: &impl Print, input: &[u8]) -> io::Result<()> {
-    streams::print_page(
-        rt,
-        &mut texts::doors_page(),
-        |out| texts::list_doors(input, out),
-    )
+    let mut out = texts::doors_page();
+    let length = texts::list_doors(input, &mut out);
+    rt.write_all(&out[..length])
 }
 
 fn main(rt: HostRuntime) {
-    streams::reply(
-        &rt,
-        &mut rt.stdin(),
-        &mut [0; 8193],
-        |input| answer(&rt, input),
-    );
+    let mut input = [0u8; 8193];
+    match streams::read_full(&mut rt.stdin(), &mut input) {
+        Ok(n) => streams::unwritten(&rt, answer(&rt, &input[..n])),
+        Err(why) => streams::unread(&rt, why),
+    }
 }

@@ -1,5 +1,5 @@
 // The straight cuts that take the floor apart, numbered in the order in which they are made: that of the tree as it is written.
-ghost use Rattle.std.specs.Prelude.{◌≤◌};
+ghost use Rattle.std.specs.Prelude.{◌+◌, ◌≤◌, length, IfSome};
 
 use crate::place::Sheet;
 use crate::stretches;
@@ -86,34 +86,53 @@ fn number_cut(rt: &impl Print, sheet: Sheet, stretch: Stretch, nth: usize) -> io
     )
 }
 
-// All cuts of a tree, numbered from its front on. The field of a cut has tag 5, its direction and its line, and that of a room alone four bytes. The parts that wait stand on a stack of fixed
+// A field of the tree: its cut, by direction and line, or none for a room alone; and what stands behind it.
+#[derive(Clone, Copy)]
+struct Field<'a> {
+    cut: Option<(Way, u16)>,
+    behind: &'a [u8],
+}
+
+// The field at the front: a cut has tag 5, then its direction and its line.
+fn front(tree: &[u8]) -> Option<Field<'_>>
+    ensures { IfSome result (λ f. (length f.behind.now + 4 ≤ length tree.now) × (length tree.now ≤ length f.behind.now + 5)) }
+{
+    match tree {
+        &[5, _, _, way, line, ref behind @ ..] => {
+            let way = if way == 0 { Way::Upright } else { Way::Level };
+            Some(Field {
+                cut: Some((way, u16::from(line))),
+                behind,
+            })
+        }
+        &[5, ..] => None,
+        &[_, _, _, _, ref behind @ ..] => Some(Field { cut: None, behind }),
+        _ => None,
+    }
+}
+
+// All cuts of a tree, numbered from its front on. The parts that wait stand on a stack of fixed
 // size, what a cut leaves before its line on top: no function here calls itself (tests/stack). Sixty rooms are never more than sixty parts.
 pub fn number_all(rt: &impl Print, sheet: Sheet, tree: &[u8; 535]) -> io::Result<()> {
     let mut parts = [Part::whole(sheet); 64];
     let mut many: usize = 1;
     let mut made: usize = 0;
     let mut rest: &[u8] = tree;
-    'fields: while let [tag, _, _, way, fields @ ..] = rest {
+    'fields: while let Some(field) = front(rest) {
+        rest = field.behind;
         if many == 0 || 63 < many {
             return Ok(());
         }
         let part = parts[many - 1];
-        if *tag != 5 {
+        let Some((way, line)) = field.cut else {
             many -= 1;
-            rest = fields;
             continue;
-        }
-        let [line, others @ ..] = fields else {
-            return Ok(());
         };
-        let way = if *way == 0 { Way::Upright } else { Way::Level };
-        let line = u16::from(*line);
         made += 1;
         number_cut(rt, sheet, part.stretch(way, line), made)?;
         parts[many - 1] = part.behind(way, line);
         parts[many] = part.before(way, line);
         many += 1;
-        rest = others;
     }
     Ok(())
 }

@@ -154,7 +154,9 @@ fn cut_picture(rt: &impl Print, plan: &Layout, sizes: &Least, asked: Asked) -> i
 
 // What the listing says.
 fn say(rt: &impl Print, input: &[u8]) -> io::Result<()> {
-    streams::print_page(rt, &mut letters::page(), |out| texts::list(input, out))
+    let mut out = letters::page();
+    let length = texts::list(input, &mut out);
+    rt.write_all(&out[..length])
 }
 
 // What is written for what is asked for.
@@ -177,7 +179,8 @@ fn answer(rt: &impl Print, asked: Asked) -> io::Result<()> {
 // One byte more than is allowed of a job is read, which tells that it is too long; a name has up to 255 bytes, and what asks for the cuts has 3.
 fn main(rt: HostRuntime) {
     let mut input = [0u8; 8454];
-    streams::reply(&rt, &mut rt.stdin(), &mut input, |read| {
-        answer(&rt, Asked::read(read))
-    });
+    match streams::read_full(&mut rt.stdin(), &mut input) {
+        Ok(n) => streams::unwritten(&rt, answer(&rt, Asked::read(&input[..n]))),
+        Err(why) => streams::unread(&rt, why),
+    }
 }

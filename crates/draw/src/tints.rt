@@ -15,7 +15,10 @@ pub struct Tints([Option<u8>; 64]);
 // Whether two rooms have a wall between them.
 fn walled(plan: &Layout, u: usize, v: usize) -> bool {
     let touch = plan.rectangle(u).touch(plan.rectangle(v));
-    matches!(touch, Touch::Wall(_, _))
+    let Touch::Wall(_, _) = touch else {
+        return false;
+    };
+    true
 }
 
 // Which rooms touch: a row for each vertex. A number that is no room touches none.

@@ -40,17 +40,17 @@ pub struct Slip {
 
 // A contact that was read: its neighbour and its kind, and the text of the next thing.
 #[derive(Clone, Copy)]
-struct Contact<'a> {
-    to: u8,
-    kind: u8,
-    rest: &'a [u8],
+pub struct Contact<'a> {
+    pub to: u8,
+    pub kind: u8,
+    pub rest: &'a [u8],
 }
 
 // A least size: a width and a height.
 #[derive(Clone, Copy)]
-struct Measure {
-    wide: u8,
-    tall: u8,
+pub struct Measure {
+    pub wide: u8,
+    pub tall: u8,
 }
 
 impl Measure {
@@ -60,16 +60,16 @@ impl Measure {
 
 // What came of a line's contacts: the stars with them, and the least size.
 #[derive(Clone, Copy)]
-struct Row {
-    held: Held,
-    size: Measure,
+pub struct Row {
+    pub held: Held,
+    pub size: Measure,
 }
 
 // The rooms of the lines so far: their stars, and a width and a height for each.
 #[derive(Clone, Copy)]
-struct Rooms {
-    held: Held,
-    list: [u8; 120],
+pub struct Rooms {
+    pub held: Held,
+    pub list: [u8; 120],
 }
 
 // What is printed for the bytes of a job, at the front; how many bytes that takes is handed back.

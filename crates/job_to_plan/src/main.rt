@@ -14,10 +14,9 @@ fn answer(rt: &impl Print, input: &[u8]) -> io::Result<()> {
 }
 
 fn main(rt: HostRuntime) {
-    streams::reply(
-        &rt,
-        &mut rt.stdin(),
-        &mut [0; 8193],
-        |input| answer(&rt, input),
-    );
+    let mut input = [0u8; 8193];
+    match streams::read_full(&mut rt.stdin(), &mut input) {
+        Ok(n) => streams::unwritten(&rt, answer(&rt, &input[..n])),
+        Err(why) => streams::unread(&rt, why),
+    }
 }

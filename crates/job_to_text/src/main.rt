@@ -1,12 +1,19 @@
 // Reads a job from standard input and prints it as text, or the number of the refusal, or that the input is too long.
 #![tactic(auto)]
 
+use std::io;
+
+// The text of a job, written out.
+fn answer(rt: &impl Print, input: &[u8]) -> io::Result<()> {
+    let mut out = letters::page();
+    let length = job_texts::text_of(input, &mut out);
+    rt.write_all(&out[..length])
+}
+
 fn main(rt: HostRuntime) {
-    streams::reply(&rt, &mut rt.stdin(), &mut [0; 8193], |input| {
-        streams::print_page(
-            &rt,
-            &mut letters::page(),
-            |out| job_texts::text_of(input, out),
-        )
-    });
+    let mut input = [0u8; 8193];
+    match streams::read_full(&mut rt.stdin(), &mut input) {
+        Ok(n) => streams::unwritten(&rt, answer(&rt, &input[..n])),
+        Err(why) => streams::unread(&rt, why),
+    }
 }

@@ -1,12 +1,14 @@
 // Jobs from bytes: tests 1 to 3, tests 1 to 6 and 17, the star question, and writing a job back.
 #![tactic(auto)]
 
-ghost use Rattle.std.specs.Prelude.{◌≡◌, ◌<◌, ◌≤◌, length};
+ghost use Rattle.std.specs.Prelude.{◌≡◌, Err};
 ghost use Rattle.floor.specs.Jobs.{sized_job, read_job, raw_star, first_three, first_six, sizes_pass, write_sized};
 ghost use Rattle.jobs.specs.Reads.{Tells};
+ghost use Rattle.jobs.specs.Writes.{InReach};
 ghost use Rattle.stars.specs.Held.{job_held};
 ghost use Rattle.stars.specs.Sized.{sizes_lent};
 ghost use Rattle.fields.specs.Writes.{replied, writing};
+ghost use Rattle.refusals.specs.declared.Refusal.TheVariants.{NotAJob};
 
 use refusals::Refusal;
 use stars::held::Held;
@@ -60,8 +62,8 @@ pub fn raw_star(job: &[u8], room: usize) -> &[u8]
 }
 
 // The held job, written to the front of a lent buffer; nothing behind it is touched, and nothing at all where it is too short.
-pub fn write_job<'a>(stars: &Held<'a>, sizes: &Least<'a>, out: &mut [u8]) -> Result<usize, Refusal>
-    requires { (stars.now.count < 256) × (length stars.now.nbr.now ≤ 360) × (sizes.now.told < 256) }
+fn write_lent<'a>(stars: &Held<'a>, sizes: &Least<'a>, out: &mut [u8]) -> Result<usize, Refusal>
+    requires { InReach stars.now sizes.now }
     ensures { (replied result ≡ (writing (write_sized (sized_job (job_held stars.now) (sizes_lent sizes.now))) out.old).reply)
         × (out.new ≡ (writing (write_sized (sized_job (job_held stars.now) (sizes_lent sizes.now))) out.old).buffer) }
 {
@@ -75,4 +77,16 @@ pub fn write_job<'a>(stars: &Held<'a>, sizes: &Least<'a>, out: &mut [u8]) -> Res
     put::put_stars(out, 4, stars);
     put::put_sizes(out, behind, sizes);
     Ok(length)
+}
+
+// The held job, written to the front of a lent buffer, and nothing behind it. What is lent may be more than a job's fields can tell: it is refused, and nothing is written.
+pub fn write_job<'a>(stars: &Held<'a>, sizes: &Least<'a>, out: &mut [u8]) -> Result<usize, Refusal>
+    ensures within { InReach stars.now sizes.now → (replied result ≡ (writing (write_sized (sized_job (job_held stars.now) (sizes_lent sizes.now))) out.old).reply)
+        × (out.new ≡ (writing (write_sized (sized_job (job_held stars.now) (sizes_lent sizes.now))) out.old).buffer) }
+    ensures beyond { (InReach stars.now sizes.now → ⊥) → (result ≡ Err NotAJob) × (out.new ≡ out.old) }
+{
+    if 255 < stars.count || 360 < stars.nbr.len() || 255 < sizes.told {
+        return Err(Refusal::NotAJob);
+    }
+    write_lent(stars, sizes, out)
 }

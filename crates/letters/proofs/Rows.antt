@@ -4,7 +4,7 @@ use mathlib.Core.Path.{◌≡◌, refl, sym, ap, ◌∙◌}
 use mathlib.Core.List.{List, [], ◌∷◌, ◌++◌, append_assoc}
 use native.Mathlib.Omega.{arith}
 use native.Mathlib.Decide.{dec_lt}
-use lib.ListN.{length, take, drop, drop_of_length-le, take-append-drop, length-append}
+use lib.ListN.{length, set, take, drop, drop_of_length-le, take-append-drop, length-append}
 use lib.Seq.{sets, sets-eq, length-sets, length-take-le, set_out, drop-drop}
 use borrow.Rule.Slice.PartMut.{put_mid}
 use Rattle.floor.specs.Texts.{line, refused_word}
@@ -69,6 +69,18 @@ word_put o s ys at start many es em ey = record { buffer = go (dec_lt (length o)
 pub none_put : (o : List ℕ) (at : ℕ) → Puts o at [] o at
 unfolding behind
 none_put o at = record { buffer = refl; place = omega arith }
+
+-- one byte, put or not
+module _ (o : List ℕ) (at b : ℕ) where
+  -- a byte is put where there is room, and the place behind it is the next
+  pub byte_put : at < length o → Puts o at (b ∷ []) (set o at b) (at + 1)
+  unfolding behind
+  byte_put h = record { buffer = refl; place = omega arith }
+
+  -- past the end no byte is put, and the place stays
+  pub byte_out : length o ≤ at → Puts o at (b ∷ []) o at
+  unfolding behind
+  byte_out h = record { buffer = sym (set_out o at b h); place = omega arith }
 
 -- a text under another name
 pub named : (o t w x : List ℕ) (at r : ℕ) → t ≡ w → Puts o at t x r → Puts o at w x r

@@ -24,7 +24,11 @@ pub fn put_word(out: &mut [u8], at: usize, word: &[u8]) -> usize
 pub fn put_byte(out: &mut [u8], at: usize, byte: u8) -> usize
     ensures { Puts out.old at (byte ∷ []) out.new result }
 {
-    put_word(out, at, &[byte])
+    if at < out.len() {
+        out[at] = byte;
+        return at + 1;
+    }
+    at
 }
 
 // The word in front of the number of a refusal.

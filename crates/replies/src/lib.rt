@@ -7,12 +7,16 @@ use std::io;
 
 // The number of a refusal.
 pub fn refuse(rt: &impl Print, k: u8) -> io::Result<()> {
-    streams::print_page(rt, &mut letters::page(), |out| texts::list_refusal(k, out))
+    let mut out = letters::page();
+    let length = texts::list_refusal(k, &mut out);
+    rt.write_all(&out[..length])
 }
 
 // That the input is too long.
 pub fn too_long(rt: &impl Print) -> io::Result<()> {
-    streams::print_page(rt, &mut letters::page(), |out| texts::list_too_long(out))
+    let mut out = letters::page();
+    let length = texts::list_too_long(&mut out);
+    rt.write_all(&out[..length])
 }
 
 // What the number that a call for C answers with tells, or the number of its refusal.

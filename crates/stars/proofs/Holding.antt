@@ -1,5 +1,5 @@
 -- The held stars, as the code comes by them. Assumes nothing.
-use Prim.Native.Nat.{ℕ, zero, suc, ◌+◌, ◌-◌, ◌<◌, ◌≤◌}
+use Prim.Native.Nat.{ℕ, zero, suc, ◌+◌, ◌-◌, ◌<◌, ◌≤◌, min}
 use mathlib.Core.Path.{◌≡◌, refl, sym, ◌∙◌, ap}
 use mathlib.Core.Bool.{Bool, true, false, cond, not, ◌&&◌, ◌||◌}
 use mathlib.Core.List.{List, [], ◌∷◌}
@@ -238,9 +238,26 @@ module _ (p : ℕ → Star → Bool) (ends nbr kind : List ℕ) (n i : ℕ) (w :
       let f : 4 + (i + 1) ≡ suc (4 + i) = omega arith in
       rw f (rw (held_more ends nbr kind n i h, ← e, not-false b t) at inv)
 
-  pub stars_done : n ≤ i → all_from p (4 + i) (stars_in (n - i) i ends nbr kind) ≡ w → true ≡ w
-  unfolding all_from
-  stars_done h inv = rw (held_done ends nbr kind n i h) at inv
+-- stars behind the ends that are told are empty
+pub past_ends : (ends nbr kind : List ℕ) (i : ℕ) → length ends ≤ i → held_star ends nbr kind i ≡ []
+unfolding held_star end_of cells
+past_ends ends nbr kind i h =
+    let e : get_or ends i 0 ≡ 0 = get_or-eq_default ends 0 h in
+    let d : min (get_or ends i 0) (length nbr) - start_of ends (length nbr) i ≡ 0 = omega (arith, e) in
+    rw d
+
+-- and nothing is left unanswered there
+pub answered_past : (j : Job) (ends nbr kind : List ℕ) (m i u : ℕ) → (0 < m → length ends ≤ i) → all_from (star_answers j) u (stars_in m i ends nbr kind) ≡ true
+unfolding all_from stars_in star_answers all
+answered_past j ends nbr kind zero i u h = refl
+answered_past j ends nbr kind (suc m) i u h =
+    let p : length ends ≤ i = h (omega arith) in
+    rw (past_ends ends nbr kind i p) (answered_past j ends nbr kind m (suc i) (suc u) (λ q. omega (arith, p)))
+
+-- so that stars are walked no further than their ends are told
+pub stars_rest : (j : Job) (ends nbr kind : List ℕ) (n i : ℕ) (w : Bool) → min n (length ends) ≤ i
+    → all_from (star_answers j) (4 + i) (stars_in (n - i) i ends nbr kind) ≡ w → true ≡ w
+stars_rest j ends nbr kind n i w h inv = sym (answered_past j ends nbr kind (n - i) i (4 + i) (λ q. omega (arith, h))) ∙ inv
 
 -- the stars held, as the job that they are
 pub job_stars : (h : Stars) (n : ℕ) → n ≡ h.count → job_in n h.ends h.nbr h.kind ≡ job_of h

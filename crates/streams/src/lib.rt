@@ -1,12 +1,10 @@
 // Input read as a whole, and what a program says on standard error where its input cannot be read or its output cannot be written.
 #![tactic(auto)]
 
-ghost use Rattle.std.specs.Prelude.{ℕ, ◌<◌, ◌≤◌, length, take, IfOk};
-ghost use Rattle.std.specs.Fn.{FnOnceReturnsAt, FnOnceReturnsAtMut};
+ghost use Rattle.std.specs.Prelude.{◌<◌, length, take, IfOk};
 ghost use Rattle.std.specs.Io.{ReadsAtMost};
 ghost use Rattle.std.specs.Io.KnownBytes.{Consumes, IsAtEnd};
 
-use std::convert::AsSlice;
 use std::io;
 use std::io::Read;
 
@@ -26,50 +24,6 @@ pub fn read_full<R: Read>(input: &mut R, buffer: &mut [u8]) -> io::Result<usize>
         done += got;
     }
     Ok(done)
-}
-
-// What an answer makes of an input, as far as it goes into a buffer.
-pub fn answered<R: Read, T, F: FnOnce(&[u8]) -> T>(
-    input: &mut R,
-    buffer: &mut [u8],
-    answer: F,
-) -> io::Result<T>
-    requires { F.IsAlwaysCallable answer }
-    ensures { IfOk result (λ t. (n : ℕ) × (n ≤ length buffer.new) × FnOnceReturnsAt F.FnOnce answer (take n buffer.new) t
-        × Consumes (R.remaining input.old) (R.remaining input.new) (take n buffer.new)
-        × (n < length buffer.new → IsAtEnd (R.remaining input.new))) }
-{
-    let n = read_full(input, buffer)?;
-    Ok(answer(&buffer[..n]))
-}
-
-// Answers an input, as far as it goes into a buffer; where it cannot be read, or the answer cannot be written, that is said.
-pub fn reply<F: FnOnce(&[u8]) -> io::Result<()>>(
-    rt: &impl Eprint,
-    input: &mut impl Read,
-    buffer: &mut [u8],
-    answer: F,
-)
-    requires { F.IsAlwaysCallable answer }
-{
-    match answered(input, buffer, answer) {
-        Ok(written) => unwritten(rt, written),
-        Err(why) => unread(rt, why),
-    }
-}
-
-// A page filled, and printed as far as it was filled.
-pub fn print_page<P: AsSlice<u8>, F: FnOnce(&mut P) -> usize>(
-    rt: &impl Print,
-    page: &mut P,
-    fill: F,
-) -> io::Result<()>
-    requires callable { F.IsAlwaysCallable fill }
-    requires within { (r : ℕ) (y : P) → FnOnceReturnsAtMut F.FnOnce fill page.old r y → r ≤ length (P.items y) }
-    ensures { (r : ℕ) × FnOnceReturnsAtMut F.FnOnce fill page.old r page.new }
-{
-    let filled = fill(page);
-    rt.write_all(&page.as_slice()[..filled])
 }
 
 // Says that a read has failed, and why.

@@ -60,11 +60,9 @@ fn add_all(input: &mut impl Read, sums: &mut [usize; 16]) -> Result<(), Fault> {
 
 // The figures, printed.
 fn show(rt: &impl Print, sums: &[usize; 16]) -> io::Result<()> {
-    streams::print_page(
-        rt,
-        &mut letters::page(),
-        |out| season::text::list_figures(sums, out),
-    )
+    let mut out = letters::page();
+    let length = season::text::list_figures(sums, &mut out);
+    rt.write_all(&out[..length])
 }
 
 fn main(rt: HostRuntime) {

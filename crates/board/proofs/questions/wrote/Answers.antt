@@ -2,8 +2,8 @@ use Rattle.board.proofs.Answering.{reply_wrote, reply_refused}
 use borrow.Author.Rules.{rules}
 use Rattle.board.proofs.questions.wrote.Goals as goal
 
-pub returns-in_err-written : goal.returns-in_err-written
-returns-in_err-written c = reply_refused _ _ _ c.in_err-written.was (search rules)
+pub returns-in-Ok : goal.returns-in-Ok
+returns-in-Ok c = search (reply_wrote, rules)
 
-pub returns : goal.returns
-returns c = search (reply_wrote, rules)
+pub returns-in-Err : goal.returns-in-Err
+returns-in-Err c = search (reply_refused, rules)

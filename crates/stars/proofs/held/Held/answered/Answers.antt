@@ -1,5 +1,5 @@
 use native.Mathlib.Nat.{sub-zero}
-use Rattle.stars.proofs.Holding.{stars_false, stars_next, stars_done, test6_held}
+use Rattle.stars.proofs.Holding.{stars_false, stars_next, stars_rest, test6_held}
 use borrow.Author.Rules.{rules}
 use Rattle.stars.proofs.held.Held.answered.Goals as goal
 
@@ -13,4 +13,4 @@ pub loop-i-preserved : goal.loop-i-preserved
 loop-i-preserved c = search (stars_next, rules)
 
 pub returns : goal.returns
-returns c = search (test6_held, stars_done, rules)
+returns c = search (test6_held, stars_rest, rules)

@@ -1,6 +1,6 @@
 use Rattle.stars.proofs.Holding.{start_first, start_later}
 use borrow.Author.Rules.{rules}
-use Rattle.stars.proofs.held.Held.start_of.Goals as goal
+use Rattle.stars.proofs.held.start_of.Goals as goal
 
 pub returns-then-i-eq0 : goal.returns-then-i-eq0
 returns-then-i-eq0 c = search (start_first, rules)

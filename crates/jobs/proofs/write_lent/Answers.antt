@@ -2,7 +2,7 @@ use native.Mathlib.Omega.{arith}
 use lib.ListN.{length-set}
 use Rattle.jobs.proofs.Writing.{length_job, write_short, write_done}
 use borrow.Author.Rules.{rules}
-use Rattle.jobs.proofs.write_job.Goals as goal
+use Rattle.jobs.proofs.write_lent.Goals as goal
 
 pub returns-then-out-length : goal.returns-then-out-length
 returns-then-out-length c = let stars = c.args.stars.now in
