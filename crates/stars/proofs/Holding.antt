@@ -238,6 +238,10 @@ module _ (p : ℕ → Star → Bool) (ends nbr kind : List ℕ) (n i : ℕ) (w :
       let f : 4 + (i + 1) ≡ suc (4 + i) = omega arith in
       rw f (rw (held_more ends nbr kind n i h, ← e, not-false b t) at inv)
 
+  pub stars_done : n ≤ i → all_from p (4 + i) (stars_in (n - i) i ends nbr kind) ≡ w → true ≡ w
+  unfolding all_from
+  stars_done h inv = rw (held_done ends nbr kind n i h) at inv
+
 -- stars behind the ends that are told are empty
 pub past_ends : (ends nbr kind : List ℕ) (i : ℕ) → length ends ≤ i → held_star ends nbr kind i ≡ []
 unfolding held_star end_of cells
